@@ -1,0 +1,4 @@
+pub mod Limit
+pub mod Outside
+pub mod Runs
+pub mod Words
