@@ -10,6 +10,8 @@ mod env;
 mod limit;
 mod list;
 mod pos;
+#[cfg(test)]
+mod tests;
 mod words;
 
 pub use env::Env;
