@@ -1,0 +1,3 @@
+pub mod Causes
+pub mod Console
+pub mod Shelf
