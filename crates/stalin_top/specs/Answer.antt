@@ -1,0 +1,22 @@
+-- The status of each answer, and the text that the command writes to the error channel.
+use Rattle.std.specs.Prelude.{ℕ, List, [], ◌∷◌, ◌++◌, codes, decimal}
+use Rattle.scheme_base.specs.Limit.{name_of}
+use Rattle.stalin_top.specs.declared.answer.Answer.{Answer}
+use Rattle.stalin_top.specs.declared.answer.Answer.TheVariants.{Done, Usage, TooLarge, FileFault, NotYet, NoMemory}
+
+abbrev pub status_of : Answer → ℕ
+status_of Done = 0
+status_of (Usage word) = 64
+status_of (TooLarge limit) = 66
+status_of FileFault = 74
+status_of (NotYet pos) = 69
+status_of NoMemory = 71
+
+-- each text ends with a line end
+abbrev pub text_of : Answer → List ℕ
+text_of Done = []
+text_of (Usage word) = codes "usage: word " ++ (decimal word ++ 10 ∷ [])
+text_of (TooLarge limit) = codes "too large: " ++ (name_of limit.which ++ (32 ∷ [] ++ (decimal limit.count ++ 10 ∷ [])))
+text_of FileFault = codes "file fault" ++ 10 ∷ []
+text_of (NotYet pos) = codes "not yet at " ++ (decimal pos.line ++ (58 ∷ [] ++ (decimal pos.col ++ 10 ∷ [])))
+text_of NoMemory = codes "no memory" ++ 10 ∷ []

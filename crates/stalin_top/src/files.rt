@@ -1,0 +1,105 @@
+ghost use Rattle.std.specs.Prelude.{◌≡◌, ◌≤◌, ◌<◌, ◌∷◌, length, ◌^◌};
+ghost use Rattle.stalin_outside.specs.Causes.{HasCause};
+ghost use Rattle.stalin_outside.specs.Shelf.{SameFiles, last_name};
+ghost use Rattle.stalin_top.specs.Files.{ReadsFile, ReadsRest, WritesFile, WritesRest, AskedToRead, AskedToWrite};
+
+use scheme_base::Bytes;
+use stalin_outside::{Begun, Got, Kind, Shelf, Took};
+use std::alloc::Global;
+
+/// The most bytes that a source may have.
+pub(crate) const MOST: usize = 0x10_0000;
+
+/// How many bytes a read or a write asks for at a time, at most.
+const PIECE: usize = 4096;
+
+/// What reading a source gives.
+#[derive(Drop)]
+pub(crate) enum Reading {
+    /// All its bytes.
+    Whole(Bytes),
+    /// It has more than `MOST` bytes.
+    TooLong,
+    /// A call of the shelf failed.
+    Fault,
+    NoMemory,
+}
+
+/// Reads the whole of a file, unless it is too long: it reads `MOST` + 1 bytes of one at most.
+pub(crate) fn read_source<H: Shelf>(alloc: Global, shelf: &mut H, name: &str) -> Reading
+    ensures source { ReadsFile (H.files shelf.old) name.now result }
+    ensures files { SameFiles (H.files shelf.old) (H.files shelf.new) }
+    ensures asks { AskedToRead name.now result (H.asks shelf.old) (H.asks shelf.new) }
+    ensures cause { HasCause (H.faults shelf.old) (H.faults shelf.new) (result ≡ Reading.Fault) }
+{
+    match shelf.begin_read(name) {
+        Begun::Ready => read_rest(alloc, shelf),
+        Begun::Failed => Reading::Fault,
+        Begun::NoMemory => Reading::NoMemory,
+    }
+}
+
+/// Reads what is left of the file that is begun for reading.
+fn read_rest<H: Shelf>(alloc: Global, shelf: &mut H) -> Reading
+    requires reading { H.begun shelf.old ≡ Kind.ForReading }
+    ensures source { ReadsRest (H.files shelf.old) (H.left shelf.old) result }
+    ensures files { SameFiles (H.files shelf.old) (H.files shelf.new) }
+    ensures asks { H.asks shelf.new ≡ H.asks shelf.old }
+    ensures cause { HasCause (H.faults shelf.old) (H.faults shelf.new) (result ≡ Reading.Fault) }
+{
+    let mut text = Bytes::new(alloc);
+    let mut buf = [0u8; PIECE];
+    'reads: while text.len() <= MOST {
+        let room = (MOST + 1 - text.len()).min(PIECE);
+        match shelf.read(&mut buf[..room]) {
+            Got::Bytes(count) => {
+                if text.extend_from_slice(&buf[..count]).is_err() {
+                    return Reading::NoMemory;
+                }
+            }
+            Got::End => return Reading::Whole(text),
+            Got::Failed => return Reading::Fault,
+        }
+    }
+    Reading::TooLong
+}
+
+/// What writing a file gives.
+#[derive(Clone, Copy, Debug, PartialEq, Eq)]
+pub(crate) enum Writing {
+    Done,
+    /// A call of the shelf failed.
+    Fault,
+    NoMemory,
+}
+
+/// Writes the whole of a file, in place of what it held.
+pub(crate) fn write_file<H: Shelf>(shelf: &mut H, name: &str, bytes: &[u8]) -> Writing
+    ensures files { WritesFile name.now bytes.now result (H.files shelf.old) (H.files shelf.new) }
+    ensures asks { AskedToWrite name.now result (H.asks shelf.old) (H.asks shelf.new) }
+    ensures cause { HasCause (H.faults shelf.old) (H.faults shelf.new) (result ≡ Writing.Fault) }
+{
+    match shelf.begin_write(name) {
+        Begun::Ready => write_rest(shelf, bytes),
+        Begun::Failed => Writing::Fault,
+        Begun::NoMemory => Writing::NoMemory,
+    }
+}
+
+/// Writes bytes at the end of the file that is begun for writing.
+fn write_rest<H: Shelf>(shelf: &mut H, bytes: &[u8]) -> Writing
+    requires writing { H.begun shelf.old ≡ Kind.ForWriting }
+    ensures files { WritesRest (last_name (H.asks shelf.old)) bytes.now result (H.files shelf.old) (H.files shelf.new) }
+    ensures asks { H.asks shelf.new ≡ H.asks shelf.old }
+    ensures cause { HasCause (H.faults shelf.old) (H.faults shelf.new) (result ≡ Writing.Fault) }
+{
+    let mut rest = bytes;
+    'writes: while !rest.is_empty() {
+        let piece = &rest[..rest.len().min(PIECE)];
+        match shelf.write(piece) {
+            Took::Bytes(count) => rest = &rest[count..],
+            Took::Failed => return Writing::Fault,
+        }
+    }
+    Writing::Done
+}

@@ -1,0 +1,74 @@
+ghost use Rattle.std.specs.Prelude.{◌≡◌, false};
+ghost use Rattle.stalin_outside.specs.Causes.{HasCause};
+ghost use Rattle.stalin_top.specs.Answer.{text_of};
+ghost use Rattle.stalin_top.specs.Sending.{Sends, joined};
+
+use crate::Answer;
+use itoa::Buffer;
+use stalin_outside::{Console, Out};
+
+/// Writes an answer's text to the error channel, up to the first call that fails; tells whether none did.
+pub(crate) fn tell<C: Console>(console: &mut C, answer: &Answer) -> bool
+    ensures errors { Sends (C.errors console.old) (C.errors console.new) (text_of answer.now) result }
+    ensures input { C.input console.new ≡ C.input console.old }
+    ensures output { C.output console.new ≡ C.output console.old }
+    ensures answers { C.answers console.new ≡ C.answers console.old }
+    ensures faults { C.faults console.new ≡ C.faults console.old }
+    ensures cause { HasCause (C.err_faults console.old) (C.err_faults console.new) (result ≡ false) }
+{
+    let mut one = Buffer::new();
+    let mut other = Buffer::new();
+    match answer {
+        Answer::Done => true,
+        Answer::Usage { word } => {
+            let word = one.format(*word).as_bytes();
+            send_all(console, &[b"usage: word ", word, b"\n"])
+        }
+        Answer::TooLarge(limit) => {
+            let name = limit.which.name().as_bytes();
+            let count = one.format(limit.count).as_bytes();
+            send_all(console, &[b"too large: ", name, b" ", count, b"\n"])
+        }
+        Answer::FileFault => send(console, b"file fault\n"),
+        Answer::NotYet { pos } => {
+            let line = one.format(pos.line).as_bytes();
+            let col = other.format(pos.col).as_bytes();
+            send_all(console, &[b"not yet at ", line, b":", col, b"\n"])
+        }
+        Answer::NoMemory => send(console, b"no memory\n"),
+    }
+}
+
+/// Writes the parts of a text to the error channel, up to the first call that fails.
+fn send_all<C: Console>(console: &mut C, parts: &[&[u8]]) -> bool
+    ensures errors { Sends (C.errors console.old) (C.errors console.new) (joined parts.now) result }
+    ensures input { C.input console.new ≡ C.input console.old }
+    ensures output { C.output console.new ≡ C.output console.old }
+    ensures answers { C.answers console.new ≡ C.answers console.old }
+    ensures faults { C.faults console.new ≡ C.faults console.old }
+    ensures cause { HasCause (C.err_faults console.old) (C.err_faults console.new) (result ≡ false) }
+{
+    for part in parts {
+        if !send(console, part) {
+            return false;
+        }
+    }
+    true
+}
+
+/// Writes a text to the error channel, up to the first call that fails.
+fn send<C: Console>(console: &mut C, text: &[u8]) -> bool
+    ensures errors { Sends (C.errors console.old) (C.errors console.new) text.now result }
+    ensures input { C.input console.new ≡ C.input console.old }
+    ensures output { C.output console.new ≡ C.output console.old }
+    ensures answers { C.answers console.new ≡ C.answers console.old }
+    ensures faults { C.faults console.new ≡ C.faults console.old }
+    ensures cause { HasCause (C.err_faults console.old) (C.err_faults console.new) (result ≡ false) }
+{
+    for byte in text {
+        if console.err(*byte) == Out::Failed {
+            return false;
+        }
+    }
+    true
+}
