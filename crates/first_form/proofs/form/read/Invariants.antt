@@ -1,0 +1,13 @@
+use Rattle.std.proofs.Common.{◌+◌, ◌≤◌, length}
+use Rattle.first_form.proofs.Stages.{SoFar}
+use Rattle.first_form.proofs.form.read.Given as goal
+
+abbrev pub invariant-loop-token : goal.invariant-loop-token
+invariant-loop-token l =
+    record {
+      far : SoFar l.fn.source l.rest l.stage l.chars;
+      few : length l.chars + length l.rest ≤ length l.fn.source;
+    }
+
+abbrev pub decreases-loop-token : goal.decreases-loop-token
+decreases-loop-token l = length l.rest

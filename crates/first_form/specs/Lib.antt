@@ -1,0 +1,5 @@
+pub mod Form
+pub mod Place
+pub mod Scan
+pub mod Stage
+pub mod Tokens

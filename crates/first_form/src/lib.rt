@@ -1,0 +1,16 @@
+//! Reads a source text as a list of forms `(write-char <character>)`, the only programs that are
+//! compiled today, or finds the first token that does not fit.
+//!
+//! A text is cut into tokens by the longest match, as in R4RS 2.2 and 7.1.1: `specs/Tokens`. It is of
+//! this form where its tokens are those of such forms one after another, and what does not fit is the
+//! first token with which no text of this form goes on: `specs/Form`, which `read` meets both ways.
+#![tactic(auto)]
+
+mod error;
+mod form;
+mod place;
+mod stage;
+mod token;
+
+pub use error::FirstErr;
+pub use form::read;
