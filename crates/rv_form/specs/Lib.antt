@@ -1,0 +1,4 @@
+pub mod Numbers
+pub mod Instruction
+pub mod Image
+pub mod Machine
