@@ -1,0 +1,5 @@
+pub mod Words
+pub mod Steadiness
+pub mod Walk
+pub mod Coded
+pub mod CodeBytes

@@ -2,10 +2,10 @@
 --
 -- A word's fields, from bit 0 on: opcode (7 bits), rd (5), funct3 (3), rs1 (5), rs2 (5), funct7 (7). The
 -- formats lay immediates over the fields that they do not use.
-use Rattle.std.specs.Prelude.{ℕ, ◌+◌, ◌*◌, ◌/◌, ◌%◌, ◌^◌, ◌<◌, ◌≡◌, ℤ, pos, ◌≤ℤ◌, ◌<ℤ◌, neg_ℤ, unsigned_abs, List, [], ◌∷◌, Option, Some, None, if◌then◌else◌, Bool, nat_eq, ◌&&◌}
+use Rattle.std.specs.Prelude.{ℕ, ◌+◌, ◌*◌, ◌/◌, ◌%◌, ◌^◌, ◌<◌, ◌≡◌, ℤ, pos, ◌≤ℤ◌, ◌<ℤ◌, neg_ℤ, unsigned_abs, List, [], ◌∷◌, ◌++◌, Option, Some, None, if◌then◌else◌, Bool, nat_eq, ◌&&◌}
 use Rattle.rv_form.specs.declared.instr.Instr.{Instr}
 use Rattle.rv_form.specs.declared.instr.Instr.TheVariants.{Auipc, Addi, Beq, Bne, Jal, Ecall}
-use Rattle.rv_form.specs.Numbers.{low_part, signed}
+use Rattle.rv_form.specs.Numbers.{low_part, signed, low_bytes}
 
 abbrev pub opcode_of : ℕ → ℕ
 opcode_of w = w % 0x80
@@ -112,6 +112,11 @@ word_of (Beq rs1 rs2 imm) = b_word 0x63 0 rs1 rs2 imm
 word_of (Bne rs1 rs2 imm) = b_word 0x63 1 rs1 rs2 imm
 word_of (Jal rd imm) = j_word 0x6f rd imm
 word_of Ecall = 0x73
+
+-- the bytes of a piece of code, four for each instruction
+abbrev pub code_bytes : List Instr → List ℕ
+code_bytes [] = []
+code_bytes (instr ∷ rest) = low_bytes 4 (word_of instr) ++ code_bytes rest
 
 -- a signed number from -half up to half, half not included
 pub record IsWithin (half : ℕ) (z : ℤ) : Type 0 where

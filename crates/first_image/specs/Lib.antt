@@ -1,0 +1,4 @@
+pub mod Source
+pub mod File
+pub mod First
+pub mod Agrees

@@ -1,0 +1,38 @@
+-- The machine stays where it has stopped, and makes one call a step at most.
+use Rattle.std.proofs.Common.{◌≡◌, refl, inl, inr, Some}
+use Rattle.scheme_base.specs.Outside.{Ending}
+use Rattle.scheme_base.proofs.Runs.{Grows, Steady}
+use Rattle.rv_form.specs.declared.instr.Instr.{Instr}
+use Rattle.rv_form.specs.declared.instr.Instr.TheVariants.{Ecall}
+use Rattle.rv_form.specs.Machine.{World, State, Run, Running, Ended, Trapped, Fetched, Found, NoWord, NoPlace, Ask, Answers, Reads, Writes, Sends, Leaves, Unknown, asked, system, act, act_at, fetch, step, trace_of, ending_of, machine_in}
+
+system_grows : (w : World) (ask : Ask) (s : State) → Grows s.calls.trace (trace_of (system w ask s))
+system_grows w (Answers answer) s = inl refl
+system_grows w Reads s = inr (_, refl)
+system_grows w (Writes byte) s = inr (_, refl)
+system_grows w (Sends byte) s = inl refl
+system_grows w (Leaves status) s = inl refl
+system_grows w Unknown s = inl refl
+
+-- every instruction but a system call leaves the trace as it is
+act_grows : (w : World) (instr : Instr) (s : State) → Grows s.calls.trace (trace_of (act w instr s))
+act_grows w Ecall s = system_grows w (asked w s) s
+act_grows w instr s = inl refl
+
+pub act_at_grows : (w : World) (at : Fetched) (s : State) → Grows s.calls.trace (trace_of (act_at w at s))
+act_at_grows w (Found instr) s = act_grows w instr s
+act_at_grows w NoWord s = inl refl
+act_at_grows w NoPlace s = inl refl
+
+step_grows : (w : World) (run : Run) → Grows (trace_of run) (trace_of (step w run))
+step_grows w (Running s) = act_at_grows w (fetch w s.memory s.pc) s
+step_grows w (Ended status calls) = inl refl
+step_grows w (Trapped kind pc calls) = inl refl
+
+step_stays : (w : World) (run : Run) (e : Ending) → ending_of run ≡ Some e → step w run ≡ run
+step_stays w (Running s) e h = cc
+step_stays w (Ended status calls) e h = refl
+step_stays w (Trapped kind pc calls) e h = refl
+
+pub is_steady : (w : World) → Steady (machine_in w)
+is_steady w = record { stays = step_stays w; grows = step_grows w }
