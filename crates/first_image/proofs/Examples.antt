@@ -3,10 +3,10 @@ use Rattle.std.proofs.Common.{◌≡◌, ℕ, List, [], ◌∷◌, Option, Some,
 use Rattle.std.specs.Prelude.{pos, codes}
 use Rattle.scheme_base.specs.declared.env.Env.{Env}
 use Rattle.scheme_base.specs.Outside.{Event, Wrote, WriteFailed, Ending, Exits}
-use Rattle.scheme_base.specs.Runs.{Machine, after}
+use Rattle.scheme_base.specs.Runs.{after}
 use Rattle.rv_form.specs.declared.instr.Instr.TheVariants.{Addi, Ecall}
 use Rattle.rv_form.specs.Instruction.{word_of}
-use Rattle.rv_form.specs.Machine.{Run, machine, start}
+use Rattle.rv_form.specs.Machine.{machine, start}
 use Rattle.first_image.specs.First.{first_image}
 
 addi_word : word_of (Addi 10 0 (pos 1)) ≡ 0x00100513

@@ -1,1 +1,4 @@
 pub mod Examples
+pub mod Text
+pub mod Turns
+pub mod Law

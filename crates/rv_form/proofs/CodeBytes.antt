@@ -1,11 +1,13 @@
 -- Code that memory holds is fetched as it was written.
-use Rattle.std.proofs.Common.{◌≡◌, ℕ, zero, suc, ◌+◌, ◌*◌, ◌%◌, ◌<◌, ◌≤◌, Bool, true, List, [], ◌∷◌, ◌++◌, length, Option, Some, refl, sym, ap, subst, ◌∙◌, arith}
-use Rattle.std.specs.Prelude.{nat_eq, ◌&&◌, slice_get}
+use Rattle.std.proofs.Common.{◌≡◌, ℕ, zero, suc, ◌+◌, ◌*◌, ◌%◌, ◌<◌, ◌≤◌, true, List, [], ◌∷◌, ◌++◌, length, Some, refl, sym, ap, subst, ◌∙◌, arith}
+use Rattle.std.specs.Prelude.{◌-◌, ◌/◌, nat_eq, ◌&&◌, slice_get, slice_index}
+use Rattle.scheme_base.specs.declared.env.Env.{Env}
+use Rattle.rv_form.specs.declared.image.Segment.{Segment}
 use Rattle.rv_form.specs.declared.instr.Instr.{Instr}
 use Rattle.rv_form.specs.Numbers.{low_bytes}
 use Rattle.rv_form.specs.Instruction.{word_of, instruction_of, code_bytes}
-use Rattle.rv_form.specs.Image.{Access, Executing}
-use Rattle.rv_form.specs.Machine.{World, Fetched, Found, found, fetched, fetch, load, all_allowed}
+use Rattle.rv_form.specs.Image.{Access, Executing, flag_of, lies_in, byte_at}
+use Rattle.rv_form.specs.Machine.{World, world_of, Found, found, fetched, fetch, load, all_allowed}
 use Rattle.rv_form.proofs.Words.{number_of, Decodes, AllDecode}
 
 -- memory holds these bytes from a place on
@@ -58,3 +60,50 @@ code_stands w memory base total area (first ∷ code) rest a decode even low hig
     ap (fetch w memory) e
     ∙ code_stands w memory base total area code rest (a + 1 + 1 + 1 + 1) decode.1 (omega arith) (omega arith) (omega arith)
     holds.1.1.1.1 k instr is
+
+-- what a memory holds
+
+pub holds_past : (memory : ℕ → ℕ) (a : ℕ) (front rest : List ℕ) → Holds memory a (front ++ rest)
+    → Holds memory (a + length front) rest
+holds_past memory a [] rest holds =
+    let e : a ≡ a + length {A = ℕ} [] = omega arith in
+    subst (λ b. Holds memory b rest) e holds
+holds_past memory a (byte ∷ front) rest holds =
+    let e : a + 1 + length front ≡ a + length (byte ∷ front) = omega arith in
+    subst (λ b. Holds memory b rest) e (holds_past memory (a + 1) front rest holds.1)
+
+holds_each : (memory : ℕ → ℕ) (a : ℕ) (bytes : List ℕ)
+    → ((k : ℕ) → k < length bytes → memory (a + k) ≡ slice_index bytes k) → Holds memory a bytes
+holds_each memory a [] each = tt
+holds_each memory a (byte ∷ rest) each =
+    let e : a + 0 ≡ a = omega arith in (
+      ap memory (sym e) ∙ each 0 (omega arith),
+      holds_each memory (a + 1) rest (λ k within.
+          let f : a + 1 + k ≡ a + suc k = omega arith in
+          ap memory f ∙ each (suc k) (omega arith)),
+    )
+
+-- an image of one segment
+
+lies_at : (segment : Segment) (k : ℕ) → k < segment.memsz → lies_in segment (segment.vaddr + k) ≡ true
+lies_at segment k within = grind arith
+
+pub one_segment_holds : (segment : Segment) → length segment.bytes ≤ segment.memsz
+    → Holds (byte_at (segment ∷ [])) segment.vaddr segment.bytes
+one_segment_holds segment fits =
+    holds_each (byte_at (segment ∷ [])) segment.vaddr segment.bytes
+    (λ k within.
+    let inside : lies_in segment (segment.vaddr + k) ≡ true = lies_at segment k (omega arith) in
+    let e : segment.vaddr + k - segment.vaddr ≡ k = omega arith in
+    rw (inside, e) refl)
+
+pub one_segment_open : (segment : Segment) (env : Env) (entry : ℕ) (access : Access)
+    → nat_eq (segment.flags / flag_of access % 2) 1 ≡ true
+    → IsOpen (world_of (record { entry = entry; segments = segment ∷ [] }) env) access segment.vaddr segment.memsz
+one_segment_open segment env entry access flag =
+    record {
+      usable = λ a low high.
+          let e : a ≡ segment.vaddr + (a - segment.vaddr) = omega arith in
+          let inside : lies_in segment a ≡ true = ap (lies_in segment) e ∙ lies_at segment (a - segment.vaddr) (omega arith) in
+          rw inside flag;
+    }

@@ -1,12 +1,12 @@
 -- The machine that fetches from memory, and the one whose code is given, do the same where no byte that
 -- may be executed may be written.
-use Rattle.std.proofs.Common.{◌≡◌, ℕ, zero, suc, ◌+◌, ◌*◌, ◌-◌, ◌%◌, ◌<◌, ◌≤◌, Bool, true, false, List, Some, refl, sym, ap, subst, ◌∙◌, arith}
-use Rattle.std.specs.Prelude.{pos, negsuc, nat_eq, nat_le, nat_lt, ◌&&◌, not, if◌then◌else◌}
-use Rattle.scheme_base.specs.Outside.{Event, ReadByte, ReadEnd, ReadFailed, Wrote, WriteFailed, Ending, read_event, next_fails}
-use Rattle.scheme_base.specs.Runs.{Machine, after, SameRuns, HasEnded}
+use Rattle.std.proofs.Common.{◌≡◌, ℕ, zero, suc, ◌+◌, ◌*◌, ◌%◌, Bool, true, false, refl, sym, ap, ◌∙◌, arith}
+use Rattle.std.specs.Prelude.{pos, negsuc, nat_eq, ◌&&◌, not, if◌then◌else◌}
+use Rattle.scheme_base.specs.Outside.{Event, ReadByte, read_event, next_fails}
+use Rattle.scheme_base.specs.Runs.{Machine, after, SameRuns}
 use Rattle.rv_form.specs.declared.instr.Instr.{Instr}
 use Rattle.rv_form.specs.declared.instr.Instr.TheVariants.{Ecall}
-use Rattle.rv_form.specs.Image.{Access, Executing, Writing}
+use Rattle.rv_form.specs.Image.{Executing, Writing}
 use Rattle.rv_form.specs.Instruction.{instruction_of}
 use Rattle.rv_form.specs.Machine.{World, State, Run, Running, Ended, Trapped, Fetched, Found, NoWord, NoPlace, found, fetched, fetch, load, store, all_allowed, Ask, Answers, Reads, Writes, Sends, Leaves, Unknown, asked, asked_read, asked_write, received, reg, system, act, act_at, step, trace_of, ending_of, machine_in}
 use Rattle.rv_form.proofs.Walk.{Coded, coded_step, coded_machine}
@@ -157,8 +157,7 @@ runs_from_memory one x w s apart runs =
       shown = λ m. let found = runs.shown m in (found.0, found.1 ∙ ap trace_of (same m));
       ends =
           λ n e stopped.
-          let found = runs.ends n e stopped in
-          (
+          let found = runs.ends n e stopped in (
             found.0,
             record {
               stopped = ap ending_of (sym (same found.0)) ∙ found.1.stopped;
@@ -167,8 +166,7 @@ runs_from_memory one x w s apart runs =
           );
       ended =
           λ m e stopped.
-          let found = runs.ended m e (ap ending_of (same m) ∙ stopped) in
-          (
+          let found = runs.ended m e (ap ending_of (same m) ∙ stopped) in (
             found.0,
             record { stopped = found.1.stopped; shown = found.1.shown ∙ ap trace_of (same m) },
           );

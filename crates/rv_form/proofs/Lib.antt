@@ -1,4 +1,5 @@
 pub mod Words
+pub mod Distances
 pub mod Steadiness
 pub mod Walk
 pub mod Coded

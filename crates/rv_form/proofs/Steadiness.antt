@@ -5,6 +5,7 @@ use Rattle.scheme_base.proofs.Runs.{Grows, Steady}
 use Rattle.rv_form.specs.declared.instr.Instr.{Instr}
 use Rattle.rv_form.specs.declared.instr.Instr.TheVariants.{Ecall}
 use Rattle.rv_form.specs.Machine.{World, State, Run, Running, Ended, Trapped, Fetched, Found, NoWord, NoPlace, Ask, Answers, Reads, Writes, Sends, Leaves, Unknown, asked, system, act, act_at, fetch, step, trace_of, ending_of, machine_in}
+use Rattle.rv_form.proofs.Walk.{Coded, coded_step, coded_machine}
 
 system_grows : (w : World) (ask : Ask) (s : State) → Grows s.calls.trace (trace_of (system w ask s))
 system_grows w (Answers answer) s = inl refl
@@ -36,3 +37,18 @@ step_stays w (Trapped kind pc calls) e h = refl
 
 pub is_steady : (w : World) → Steady (machine_in w)
 is_steady w = record { stays = step_stays w; grows = step_grows w }
+
+-- the same of the machine whose code is given
+
+coded_grows : (c : Coded) (run : Run) → Grows (trace_of run) (trace_of (coded_step c run))
+coded_grows c (Running s) = act_at_grows c.world (c.code s.pc) s
+coded_grows c (Ended status calls) = inl refl
+coded_grows c (Trapped kind pc calls) = inl refl
+
+coded_stays : (c : Coded) (run : Run) (e : Ending) → ending_of run ≡ Some e → coded_step c run ≡ run
+coded_stays c (Running s) e h = cc
+coded_stays c (Ended status calls) e h = refl
+coded_stays c (Trapped kind pc calls) e h = refl
+
+pub coded_is_steady : (c : Coded) → Steady (coded_machine c)
+coded_is_steady c = record { stays = coded_stays c; grows = coded_grows c }

@@ -3,15 +3,16 @@
 -- Here the code is given, as what is fetched at each place. `proofs/Coded` says that the machine, which
 -- fetches from memory, does the same, and `proofs/CodeBytes` what it fetches of code that memory holds. A walk
 -- is read from top to bottom, a word for each instruction, and ends in `here`.
-use Rattle.std.proofs.Common.{◌≡◌, ℕ, zero, suc, ◌+◌, ◌-◌, ◌^◌, ◌%◌, Bool, true, false, refl, sym, ap, subst, ◌∙◌, arith}
+use Rattle.std.proofs.Common.{◌≡◌, ℕ, suc, ◌+◌, ◌-◌, ◌^◌, true, false, refl, ap, ◌∙◌}
 use Rattle.std.specs.Prelude.{ℤ, nat_eq}
 use Rattle.scheme_base.specs.Runs.{Machine, after}
-use Rattle.scheme_base.specs.Outside.{next_fails, after_write, after_send, next_error_fails}
+use Rattle.scheme_base.specs.Outside.{next_fails, after_write}
 use Rattle.scheme_base.proofs.Runs.{after-add}
 use Rattle.rv_form.specs.declared.instr.Instr.{Instr}
 use Rattle.rv_form.specs.declared.instr.Instr.TheVariants.{Beq, Bne, Ecall}
 use Rattle.rv_form.specs.Numbers.{add, word}
-use Rattle.rv_form.specs.Machine.{World, State, Run, Running, Ended, Trapped, Fetched, Found, Ask, Writes, Sends, Leaves, reg, with_reg, asked, system, act, act_at, trace_of, ending_of}
+use Rattle.rv_form.specs.Image.{Reading}
+use Rattle.rv_form.specs.Machine.{World, State, Run, Running, Ended, Trapped, Fetched, Found, Ask, Writes, Sends, reg, with_reg, asked, system, act, act_at, trace_of, ending_of}
 
 -- what a machine runs: its code by places, and its world
 pub record Coded : Type 0 where
@@ -102,16 +103,40 @@ call_to : {c : Coded} {n : ℕ} {s : State} {to : Run} (ask : Ask) (next : Run)
 call_to {c = c} {n = n} {s = s} ask next at asks e rest =
     via at (record { is = ap (λ a. after (coded_machine c) n (system c.world a s)) asks ∙ (ap (after (coded_machine c) n) e ∙ rest.is) })
 
+-- a system call that writes one byte to a channel
+pub record WritesOne (w : World) (s : State) (channel byte : ℕ) : Type 0 where
+  pub from : ℕ
+  pub number : reg s 17 ≡ 64
+  pub count : reg s 12 ≡ 1
+  pub target : reg s 10 ≡ channel
+  pub place : reg s 11 ≡ from
+  pub readable : w.allows Reading from ≡ true
+  pub content : s.memory from ≡ byte
+
+asks_write : (w : World) (s : State) (byte : ℕ) → WritesOne w s 1 byte → asked w s ≡ Writes byte
+asks_write w s byte one =
+    rw (one.number, one.count, one.target, one.place, one.readable, one.content) refl
+
+asks_send : (w : World) (s : State) (byte : ℕ) → WritesOne w s 2 byte → asked w s ≡ Sends byte
+asks_send w s byte one =
+    rw (one.number, one.count, one.target, one.place, one.readable, one.content) refl
+
 pub write_ok : {c : Coded} {n : ℕ} {s : State} {to : Run} {byte : ℕ}
-    → c.code s.pc ≡ Found Ecall → asked c.world s ≡ Writes byte
+    → c.code s.pc ≡ Found Ecall → WritesOne c.world s 1 byte
     → next_fails c.world.env s.calls ≡ false
     → Reach c n (Running (record (answers_in s 1) { calls = after_write c.world.env byte s.calls })) to
     → Reach c (suc n) (Running s) to
-write_ok {s = s} {byte = byte} at asks ok rest = call_to (Writes byte) _ at asks (rw ok refl) rest
+write_ok {s = s} {byte = byte} at asks ok rest = call_to (Writes byte) _ at (asks_write _ s byte asks) (rw ok refl) rest
 
 pub write_failed : {c : Coded} {n : ℕ} {s : State} {to : Run} {byte : ℕ}
-    → c.code s.pc ≡ Found Ecall → asked c.world s ≡ Writes byte
+    → c.code s.pc ≡ Found Ecall → WritesOne c.world s 1 byte
     → next_fails c.world.env s.calls ≡ true
     → Reach c n (Running (record (answers_in s (2 ^ 64 - 5)) { calls = after_write c.world.env byte s.calls })) to
     → Reach c (suc n) (Running s) to
-write_failed {s = s} {byte = byte} at asks failed rest = call_to (Writes byte) _ at asks (rw failed refl) rest
+write_failed {s = s} {byte = byte} at asks failed rest = call_to (Writes byte) _ at (asks_write _ s byte asks) (rw failed refl) rest
+
+-- a byte for channel 2, whether the call fails or not
+pub sends : {c : Coded} {n : ℕ} {s : State} {to : Run} {byte : ℕ}
+    → c.code s.pc ≡ Found Ecall → WritesOne c.world s 2 byte
+    → Reach c n (system c.world (Sends byte) s) to → Reach c (suc n) (Running s) to
+sends {s = s} {byte = byte} at asks rest = call_to (Sends byte) _ at (asks_send _ s byte asks) refl rest

@@ -1,5 +1,5 @@
 -- What an image loads: the byte at each address, and who may use it.
-use Rattle.std.specs.Prelude.{ℕ, ◌+◌, ◌-◌, ◌/◌, ◌%◌, List, [], ◌∷◌, Bool, true, if◌then◌else◌, nat_eq, nat_lt, nat_le, ◌&&◌, slice_index}
+use Rattle.std.specs.Prelude.{ℕ, ◌+◌, ◌-◌, ◌/◌, ◌%◌, List, [], ◌∷◌, Bool, if◌then◌else◌, nat_eq, nat_lt, nat_le, ◌&&◌, slice_index}
 use Rattle.rv_form.specs.declared.image.Segment.{Segment}
 
 -- how a byte of memory is used
