@@ -6,10 +6,14 @@
 //! `specs/Shelf`, and what they do to streams in `specs/Console`.
 #![tactic(auto)]
 
+mod asks;
+mod calls;
 mod console;
 mod gate;
+mod mem_shelf;
 mod shelf;
 
 pub use console::{Answer, Console, In, Out};
 pub use gate::Gate;
+pub use mem_shelf::MemShelf;
 pub use shelf::{Ask, Begun, Got, Kind, Shelf, Took};

@@ -1,6 +1,6 @@
 ghost use Rattle.std.specs.Prelude.{◌≡◌, ◌<◌, ℕ, List, Option, length};
 ghost use Rattle.stalin_outside.specs.Causes.{HasCause};
-ghost use Rattle.stalin_outside.specs.Shelf.{Files, SameFiles, Empties, Appends, StartsFile, Gives, asks_after, kind_after, kind_after_read, kind_after_write, last_name};
+ghost use Rattle.stalin_outside.specs.Shelf.{Files, SameFiles, Empties, Appends, StartsFile, Gives, asks_after, kind_after, kind_after_read, kind_after_write, last_name, name_of};
 
 use scheme_base::Bytes;
 
@@ -48,6 +48,17 @@ pub enum Kind {
 pub enum Ask {
     ToRead(Bytes),
     ToWrite(Bytes),
+}
+
+impl Ask {
+    pub fn name(&self) -> &[u8]
+        ensures { result.now ≡ name_of self.now }
+    {
+        match self {
+            Ask::ToRead(name) => name.as_slice(),
+            Ask::ToWrite(name) => name.as_slice(),
+        }
+    }
 }
 
 /// A shelf of files, of which one at most is begun for reading or for writing.

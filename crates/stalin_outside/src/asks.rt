@@ -1,0 +1,49 @@
+ghost use Rattle.std.specs.Prelude.{◌≡◌, [], ◌∷◌, OnOk, OnErr};
+ghost use Rattle.stalin_outside.specs.Shelf.{last_name};
+
+use crate::shelf::Ask;
+use std::alloc::{AllocError, Global};
+use std::marker::Model;
+
+/// The asks of a shelf, of which contracts see the newest first.
+#[derive(Debug, Drop)]
+pub struct Asks {
+    items: Vec<Ask>,
+}
+
+impl Model for Asks {
+    ghost use Rattle.std.specs.Prelude.{List, reverse};
+    ghost use Rattle.stalin_outside.specs.declared.shelf.Ask.{Ask};
+
+    ghost Value = { List Ask };
+
+    ghost view = { λ asks. reverse asks.items.items };
+}
+
+impl Asks {
+    pub fn new(alloc: Global) -> Asks
+        ensures { result ≡ [] }
+    {
+        Asks {
+            items: Vec::new(alloc),
+        }
+    }
+
+    pub fn push(&mut self, ask: Ask) -> Result<(), AllocError>
+        ensures ok { OnOk result (self.new ≡ ask ∷ self.old) }
+        ensures err { OnErr result (self.new ≡ self.old) }
+    {
+        self.items.push(ask)?;
+        Ok(())
+    }
+
+    /// The name of the last ask, which is empty before the first.
+    pub fn last_name(&self) -> &[u8]
+        ensures { result.now ≡ last_name self.now }
+    {
+        match self.items.last() {
+            Some(ask) => ask.name(),
+            None => &[],
+        }
+    }
+}
