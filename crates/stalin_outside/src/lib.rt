@@ -10,10 +10,12 @@ mod asks;
 mod calls;
 mod console;
 mod gate;
+mod mem_console;
 mod mem_shelf;
 mod shelf;
 
 pub use console::{Answer, Console, In, Out};
-pub use gate::Gate;
+pub use gate::{Gate, OpenGate};
+pub use mem_console::MemConsole;
 pub use mem_shelf::MemShelf;
 pub use shelf::{Ask, Begun, Got, Kind, Shelf, Took};
