@@ -2,3 +2,4 @@ pub mod Examples
 pub mod Text
 pub mod Turns
 pub mod Law
+pub mod Joined

@@ -5,11 +5,7 @@ use Rattle.std.specs.Prelude.{ℕ, ◌+◌, ◌-◌, ◌*◌, ◌/◌, List, [],
 use Rattle.rv_form.specs.declared.image.Image.{Image}
 use Rattle.rv_form.specs.declared.image.Segment.{Segment}
 use Rattle.rv_form.specs.Numbers.{low_bytes}
-
--- a number in a field of so many bytes
-pub record Field : Type 0 where
-  pub width : ℕ
-  pub value : ℕ
+use Rattle.first_image.specs.declared.fields.Field.{Field}
 
 abbrev pub field : (width value : ℕ) → Field
 field width value = record { width = width; value = value }
