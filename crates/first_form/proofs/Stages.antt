@@ -11,11 +11,11 @@ use Rattle.first_form.specs.Place.{place_after}
 use Rattle.first_form.specs.Stage.{begun, stage_after, kept}
 use Rattle.first_form.specs.Tokens.{Token, tokens_of}
 
-append-none : (ks : List Kind) → ks ++ [] ≡ ks
+pub append-none : (ks : List Kind) → ks ++ [] ≡ ks
 append-none [] = refl
 append-none (k ∷ ks) = ap (λ r. k ∷ r) (append-none ks)
 
-kinds_of-append : (ts us : List Token) → kinds_of (ts ++ us) ≡ kinds_of ts ++ kinds_of us
+pub kinds_of-append : (ts us : List Token) → kinds_of (ts ++ us) ≡ kinds_of ts ++ kinds_of us
 kinds_of-append [] us = refl
 kinds_of-append (t ∷ ts) us = ap (λ r. t.kind ∷ r) (kinds_of-append ts us)
 

@@ -8,9 +8,11 @@
 
 mod error;
 mod form;
+mod law;
 mod place;
 mod stage;
 mod token;
 
 pub use error::FirstErr;
 pub use form::read;
+pub use law::one_answer;
