@@ -3,12 +3,13 @@ use Rattle.std.proofs.Common.{◌≡◌, ℕ, ◌+◌, ◌*◌, ◌<◌, ◌≤�
 use Rattle.std.specs.Prelude.{slice_get, nat_eq, ◌/◌, ◌%◌, if◌then◌else◌}
 use Rattle.scheme_base.specs.declared.env.Env.{Env}
 use Rattle.rv_form.specs.declared.instr.Instr.{Instr}
+use Rattle.rv_form.specs.declared.instr.Instr.TheVariants.{Auipc, Addi}
 use Rattle.rv_form.specs.Instruction.{code_bytes}
 use Rattle.rv_form.specs.Image.{Executing, Writing, Reading, byte_at, lies_in, flag_of}
 use Rattle.rv_form.specs.Machine.{World, world_of, Found}
-use Rattle.rv_form.proofs.Words.{AllDecode, decodes_auipc, decodes_addi}
+use Rattle.rv_form.proofs.Words.{AllDecode, none, also, decodes}
 use Rattle.rv_form.proofs.Distances.{far_within, near_within}
-use Rattle.rv_form.proofs.Walk.{Coded}
+use Rattle.rv_form.proofs.Walk.{Coded, ◌$◌}
 use Rattle.rv_form.proofs.Coded.{IsApart, coded_in}
 use Rattle.rv_form.proofs.CodeBytes.{Holds, IsOpen, code_stands, holds_past, one_segment_holds, one_segment_open}
 use Rattle.first_image.specs.First.{first_code, failure_line, first_segment, first_image}
@@ -24,89 +25,15 @@ coded chars env = coded_in (first_world chars env) (memory_of chars)
 
 code_decodes : (count : ℕ) → count < 2 ^ 30 → AllDecode (first_code count)
 code_decodes count few =
-    let far = decodes_auipc 19 _ (lit< tt) (far_within (116 + count) (omega arith)) in
-    let near = decodes_addi 19 19 _ (lit< tt) (lit< tt) (near_within (116 + count)) in (
-      refl,
-      (
-        refl,
-        (
-          far,
-          (
-            near,
-            (
-              refl,
-              (
-                refl,
-                (
-                  refl,
-                  (
-                    refl,
-                    (
-                      refl,
-                      (
-                        refl,
-                        (
-                          refl,
-                          (
-                            refl,
-                            (
-                              refl,
-                              (
-                                refl,
-                                (
-                                  refl,
-                                  (
-                                    refl,
-                                    (
-                                      refl,
-                                      (
-                                        refl,
-                                        (
-                                          refl,
-                                          (
-                                            refl,
-                                            (
-                                              refl,
-                                              (
-                                                refl,
-                                                (
-                                                  refl,
-                                                  (
-                                                    refl,
-                                                    (
-                                                      refl,
-                                                      (
-                                                        refl,
-                                                        (
-                                                          refl,
-                                                          (refl, (refl, (refl, tt))),
-                                                        ),
-                                                      ),
-                                                    ),
-                                                  ),
-                                                ),
-                                              ),
-                                            ),
-                                          ),
-                                        ),
-                                      ),
-                                    ),
-                                  ),
-                                ),
-                              ),
-                            ),
-                          ),
-                        ),
-                      ),
-                    ),
-                  ),
-                ),
-              ),
-            ),
-          ),
-        ),
-      ),
-    )
+    let far = decodes (Auipc 19 _) (lit< tt, far_within (116 + count) (omega arith)) in
+    let near = decodes (Addi 19 19 _) (lit< tt, lit< tt, near_within (116 + count)) in
+    also refl $ also refl $ also far $ also near
+    $ also refl $ also refl $ also refl $ also refl $ also refl $ also refl
+    $ also refl $ also refl $ also refl $ also refl
+    $ also refl $ also refl $ also refl
+    $ also refl $ also refl $ also refl
+    $ also refl $ also refl $ also refl $ also refl $ also refl $ also refl $ also refl
+    $ also refl $ also refl $ also refl $ none
 
 text_fits : (chars : List ℕ) → length (first_segment chars).bytes ≤ (first_segment chars).memsz
 text_fits chars = omega arith

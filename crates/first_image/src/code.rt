@@ -9,130 +9,65 @@ pub fn code_for(count: u32) -> [Instr; 30]
     requires { count < 2 ^ 30 }
     ensures { result ≡ first_code count }
 {
-    let far = far_of(116 + count);
-    let near = near_of(116 + count);
     [
-        Instr::Auipc { rd: 18, imm: 0 },
-        Instr::Addi {
-            rd: 18,
-            rs1: 18,
-            imm: 124,
-        },
-        Instr::Auipc { rd: 19, imm: far },
-        Instr::Addi {
-            rd: 19,
-            rs1: 19,
-            imm: near,
-        },
-        Instr::Beq {
-            rs1: 18,
-            rs2: 19,
-            imm: 40,
-        },
-        Instr::Addi {
-            rd: 10,
-            rs1: 0,
-            imm: 1,
-        },
-        Instr::Addi {
-            rd: 11,
-            rs1: 18,
-            imm: 0,
-        },
-        Instr::Addi {
-            rd: 12,
-            rs1: 0,
-            imm: 1,
-        },
-        Instr::Addi {
-            rd: 17,
-            rs1: 0,
-            imm: 64,
-        },
+        auipc(18, 0),
+        addi(18, 18, 124),
+        auipc(19, far_of(116 + count)),
+        addi(19, 19, near_of(116 + count)),
+        beq(18, 19, 40),
+        addi(10, 0, 1),
+        addi(11, 18, 0),
+        addi(12, 0, 1),
+        addi(17, 0, 64),
         Instr::Ecall,
-        Instr::Addi {
-            rd: 13,
-            rs1: 0,
-            imm: 1,
-        },
-        Instr::Bne {
-            rs1: 10,
-            rs2: 13,
-            imm: 24,
-        },
-        Instr::Addi {
-            rd: 18,
-            rs1: 18,
-            imm: 1,
-        },
+        addi(13, 0, 1),
+        bne(10, 13, 24),
+        addi(18, 18, 1),
         Instr::Jal { rd: 0, imm: -36 },
-        Instr::Addi {
-            rd: 10,
-            rs1: 0,
-            imm: 0,
-        },
-        Instr::Addi {
-            rd: 17,
-            rs1: 0,
-            imm: 93,
-        },
+        addi(10, 0, 0),
+        addi(17, 0, 93),
         Instr::Ecall,
-        Instr::Auipc { rd: 18, imm: 0 },
-        Instr::Addi {
-            rd: 18,
-            rs1: 18,
-            imm: 52,
-        },
-        Instr::Addi {
-            rd: 19,
-            rs1: 18,
-            imm: 3,
-        },
-        Instr::Addi {
-            rd: 10,
-            rs1: 0,
-            imm: 2,
-        },
-        Instr::Addi {
-            rd: 11,
-            rs1: 18,
-            imm: 0,
-        },
-        Instr::Addi {
-            rd: 12,
-            rs1: 0,
-            imm: 1,
-        },
-        Instr::Addi {
-            rd: 17,
-            rs1: 0,
-            imm: 64,
-        },
+        auipc(18, 0),
+        addi(18, 18, 52),
+        addi(19, 18, 3),
+        addi(10, 0, 2),
+        addi(11, 18, 0),
+        addi(12, 0, 1),
+        addi(17, 0, 64),
         Instr::Ecall,
-        Instr::Addi {
-            rd: 18,
-            rs1: 18,
-            imm: 1,
-        },
-        Instr::Bne {
-            rs1: 18,
-            rs2: 19,
-            imm: -24,
-        },
-        Instr::Addi {
-            rd: 10,
-            rs1: 0,
-            imm: 3,
-        },
-        Instr::Addi {
-            rd: 17,
-            rs1: 0,
-            imm: 93,
-        },
+        addi(18, 18, 1),
+        bne(18, 19, -24),
+        addi(10, 0, 3),
+        addi(17, 0, 93),
         Instr::Ecall,
     ]
 }
 
+fn auipc(rd: u8, imm: i32) -> Instr
+    ensures { result ≡ Instr.Auipc rd imm }
+{
+    Instr::Auipc { rd, imm }
+}
+
+fn addi(rd: u8, rs1: u8, imm: i32) -> Instr
+    ensures { result ≡ Instr.Addi rd rs1 imm }
+{
+    Instr::Addi { rd, rs1, imm }
+}
+
+fn beq(rs1: u8, rs2: u8, imm: i32) -> Instr
+    ensures { result ≡ Instr.Beq rs1 rs2 imm }
+{
+    Instr::Beq { rs1, rs2, imm }
+}
+
+fn bne(rs1: u8, rs2: u8, imm: i32) -> Instr
+    ensures { result ≡ Instr.Bne rs1 rs2 imm }
+{
+    Instr::Bne { rs1, rs2, imm }
+}
+
+/// The far part of a distance, in units of 4,096 bytes.
 fn far_of(distance: u32) -> i32
     requires { distance + 2048 < 2 ^ 31 }
     ensures { result ≡ far_part (pos distance) }
@@ -140,6 +75,7 @@ fn far_of(distance: u32) -> i32
     ((distance + 2048) / 4096).cast_signed()
 }
 
+/// The near part of a distance, from -2,048 to 2,047.
 fn near_of(distance: u32) -> i32
     ensures { result ≡ near_part (pos distance) }
 {

@@ -97,3 +97,26 @@ fn field(width: u8, value: u64) -> Field
 {
     Field { width, value }
 }
+
+#[cfg(test)]
+mod tests {
+    use super::*;
+    use std::test::Fail;
+
+    #[test]
+    fn two_characters_take_a_page_and_126_bytes(rt: HostRuntime) -> Result<(), Fail> {
+        let file = write(rt.alloc(), b"a\n")?;
+        assert_eq!(rt; file.len(), 4222);
+        assert_eq!(rt; file.get(0).copied(), Some(0x7f));
+        assert_eq!(rt; file.get(18).copied(), Some(243));
+        assert_eq!(rt; file.get(4220).copied(), Some(b'a'));
+        Ok(())
+    }
+
+    #[test]
+    fn no_characters_take_a_page_and_124_bytes(rt: HostRuntime) -> Result<(), Fail> {
+        let file = write(rt.alloc(), b"")?;
+        assert_eq!(rt; file.len(), 4220);
+        Ok(())
+    }
+}

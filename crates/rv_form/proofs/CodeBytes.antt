@@ -8,7 +8,7 @@ use Rattle.rv_form.specs.Numbers.{low_bytes}
 use Rattle.rv_form.specs.Instruction.{word_of, instruction_of, code_bytes}
 use Rattle.rv_form.specs.Image.{Access, Executing, flag_of, lies_in, byte_at}
 use Rattle.rv_form.specs.Machine.{World, world_of, Found, found, fetched, fetch, load, all_allowed}
-use Rattle.rv_form.proofs.Words.{number_of, Decodes, AllDecode}
+use Rattle.rv_form.proofs.Words.{number_of, Decodes, AllDecode, also}
 
 -- memory holds these bytes from a place on
 abbrev pub Holds : (ℕ → ℕ) → ℕ → List ℕ → Type 0
@@ -49,16 +49,16 @@ pub code_stands : (w : World) (memory : ℕ → ℕ) (base total : ℕ) → IsOp
     → Holds memory a (code_bytes code ++ rest)
     → (k : ℕ) (instr : Instr) → slice_get code k ≡ Some instr → fetch w memory (a + 4 * k) ≡ Found instr
 code_stands w memory base total area [] rest a decode even low high holds k instr is = cc
-code_stands w memory base total area (first ∷ code) rest a decode even low high holds zero instr is =
+code_stands w memory base total area (first ∷ code) rest a (also decode more) even low high holds zero instr is =
     let usable : all_allowed w Executing 4 a ≡ true = all_open w Executing base total 4 a area low (omega arith) in
-    let here : fetch w memory a ≡ Found first = fetch_here w memory a first (code_bytes code ++ rest) decode.0 even usable holds in
+    let here : fetch w memory a ≡ Found first = fetch_here w memory a first (code_bytes code ++ rest) decode even usable holds in
     let e : a + 4 * zero ≡ a = omega arith in
     let same : first ≡ instr = cc in
     ap (fetch w memory) e ∙ (here ∙ ap Found same)
-code_stands w memory base total area (first ∷ code) rest a decode even low high holds (suc k) instr is =
+code_stands w memory base total area (first ∷ code) rest a (also decode more) even low high holds (suc k) instr is =
     let e : a + 4 * suc k ≡ a + 1 + 1 + 1 + 1 + 4 * k = omega arith in
     ap (fetch w memory) e
-    ∙ code_stands w memory base total area code rest (a + 1 + 1 + 1 + 1) decode.1 (omega arith) (omega arith) (omega arith)
+    ∙ code_stands w memory base total area code rest (a + 1 + 1 + 1 + 1) more (omega arith) (omega arith) (omega arith)
     holds.1.1.1.1 k instr is
 
 -- what a memory holds
