@@ -1,5 +1,5 @@
 -- What a shelf in memory does to the files that it tells.
-use Rattle.std.proofs.Common.{◌≡◌, ◌≢◌, ◌≤◌, ℕ, zero, suc, ◌+◌, List, [], ◌∷◌, ◌++◌, length, take, min, Bool, true, false, not, ◌&&◌, refl, sym, ap, subst, ◌∙◌, arith}
+use Rattle.std.proofs.Common.{◌≡◌, ◌≤◌, ℕ, zero, suc, List, [], ◌++◌, length, take, min, Bool, true, false, not, ◌&&◌, refl, sym, ap, subst, ◌∙◌, arith}
 use Rattle.std.specs.Prelude.{Option, Some, None, is_some}
 use Rattle.std.specs.Option.{option_map}
 use Rattle.std.specs.Cmp.{second_so}
@@ -9,7 +9,7 @@ use Rattle.stalin_outside.specs.declared.shelf.Begun.{Begun}
 use Rattle.stalin_outside.specs.declared.shelf.Begun.TheVariants as begins
 use Rattle.stalin_outside.specs.declared.shelf.Took.{Took}
 use Rattle.stalin_outside.specs.declared.shelf.Took.TheVariants as writes
-use Rattle.stalin_outside.specs.Shelf.{ChangesOnly, Empties, Appends, Grows, SameFiles, IsCount}
+use Rattle.stalin_outside.specs.Shelf.{ChangesOnly, Empties, Appends}
 use Rattle.stalin_outside.specs.Stored.{Stored, stored, contents, emptied, grown, free_room, Puts}
 use Rattle.stalin_outside.specs.MemShelf.{BeginsExactly, after_begin, after_write, took}
 

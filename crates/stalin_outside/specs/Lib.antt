@@ -1,6 +1,7 @@
 pub mod Calls
 pub mod Causes
 pub mod Console
+pub mod FileShelf
 pub mod MemConsole
 pub mod MemShelf
 pub mod Shelf

@@ -1,5 +1,5 @@
 -- A stream of a console in memory: what was written to it, and the answers of its calls.
-use Rattle.std.specs.Prelude.{ℕ, ◌+◌, ◌-◌, ◌^◌, Bool, true, false, ◌||◌, if◌then◌else◌, nat_le, nat_lt, List, [], ◌∷◌, ◌++◌, length, replicate, Option, Some, None}
+use Rattle.std.specs.Prelude.{ℕ, ◌-◌, ◌^◌, Bool, true, false, ◌||◌, if◌then◌else◌, nat_le, nat_lt, List, [], ◌∷◌, ◌++◌, length, replicate, Option, Some, None}
 use Rattle.stalin_outside.specs.Calls.{next_fails, after_call, raised}
 use Rattle.stalin_outside.specs.declared.calls.Calls.{Calls}
 use Rattle.stalin_outside.specs.declared.console.Answer.{Answer}

@@ -2,12 +2,14 @@ ghost use Rattle.std.specs.Prelude.{◌≡◌, [], ◌∷◌, OnOk, OnErr};
 ghost use Rattle.stalin_outside.specs.Shelf.{last_name};
 
 use crate::shelf::Ask;
+use scheme_base::Bytes;
 use std::alloc::{AllocError, Global};
 use std::marker::Model;
 
 /// The asks of a shelf, of which contracts see the newest first.
 #[derive(Debug, Drop)]
 pub struct Asks {
+    alloc: Global,
     items: Vec<Ask>,
 }
 
@@ -25,15 +27,28 @@ impl Asks {
         ensures { result ≡ [] }
     {
         Asks {
+            alloc,
             items: Vec::new(alloc),
         }
     }
 
-    pub fn push(&mut self, ask: Ask) -> Result<(), AllocError>
-        ensures ok { OnOk result (self.new ≡ ask ∷ self.old) }
+    /// Notes a begin for reading.
+    pub fn note_read(&mut self, name: &str) -> Result<(), AllocError>
+        ensures ok { OnOk result (self.new ≡ Ask.ToRead name.now ∷ self.old) }
         ensures err { OnErr result (self.new ≡ self.old) }
     {
-        self.items.push(ask)?;
+        let name = Bytes::from_slice(self.alloc, name.as_bytes())?;
+        self.items.push(Ask::ToRead(name))?;
+        Ok(())
+    }
+
+    /// Notes a begin for writing.
+    pub fn note_write(&mut self, name: &str) -> Result<(), AllocError>
+        ensures ok { OnOk result (self.new ≡ Ask.ToWrite name.now ∷ self.old) }
+        ensures err { OnErr result (self.new ≡ self.old) }
+    {
+        let name = Bytes::from_slice(self.alloc, name.as_bytes())?;
+        self.items.push(Ask::ToWrite(name))?;
         Ok(())
     }
 

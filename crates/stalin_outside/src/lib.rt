@@ -9,13 +9,18 @@
 mod asks;
 mod calls;
 mod console;
+mod files;
 mod gate;
 mod mem_console;
 mod mem_shelf;
+mod retry;
 mod shelf;
+mod streams;
 
 pub use console::{Answer, Console, In, Out};
+pub use files::FileShelf;
 pub use gate::{Gate, OpenGate};
 pub use mem_console::MemConsole;
 pub use mem_shelf::MemShelf;
 pub use shelf::{Ask, Begun, Got, Kind, Shelf, Took};
+pub use streams::StdConsole;

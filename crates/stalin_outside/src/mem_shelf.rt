@@ -3,9 +3,9 @@ ghost use Rattle.std.specs.Option.{option_copied};
 
 use crate::asks::Asks;
 use crate::calls::Calls;
-use crate::shelf::{Ask, Begun, Got, Kind, Shelf, Took};
+use crate::shelf::{Begun, Got, Kind, Shelf, Took};
 use file::MemFile;
-use scheme_base::{Bytes, Numbers};
+use scheme_base::Numbers;
 use std::alloc::{AllocError, Global};
 
 mod file;
@@ -103,6 +103,7 @@ impl MemShelf {
 }
 
 impl Shelf for MemShelf {
+    ghost use Rattle.stalin_outside.specs.declared.shelf.Ask.{Ask};
     ghost use Rattle.std.specs.Prelude.{Some};
     ghost use Rattle.stalin_outside.specs.Calls.{next_fails, after_call};
     ghost use Rattle.stalin_outside.specs.Causes.{HasCause};
@@ -130,10 +131,7 @@ impl Shelf for MemShelf {
         ensures calls { self.new.calls ≡ calls_after_begin result self.old.calls }
         ensures cause { HasCause self.old.calls.failed self.new.calls.failed (result ≡ Begun.Failed) }
     {
-        let Ok(asked) = Bytes::from_slice(self.alloc, name.as_bytes()) else {
-            return Begun::NoMemory;
-        };
-        if self.asks.push(Ask::ToRead(asked)).is_err() {
+        if self.asks.note_read(name).is_err() {
             return Begun::NoMemory;
         }
         if self.calls.count() || self.file(name).is_none() {
@@ -180,10 +178,7 @@ impl Shelf for MemShelf {
         ensures calls { self.new.calls ≡ calls_after_begin result self.old.calls }
         ensures cause { HasCause self.old.calls.failed self.new.calls.failed (result ≡ Begun.Failed) }
     {
-        let Ok(asked) = Bytes::from_slice(self.alloc, name.as_bytes()) else {
-            return Begun::NoMemory;
-        };
-        if self.asks.push(Ask::ToWrite(asked)).is_err() {
+        if self.asks.note_write(name).is_err() {
             return Begun::NoMemory;
         }
         if self.calls.count() || !find::empty(&mut self.files, name.as_bytes()) {

@@ -1,6 +1,4 @@
-use Rattle.std.proofs.Common.{◌≡◌, ℕ, List, ap, ◌∙◌, nat_eq}
-use Rattle.std.specs.List.{list_any}
-use Rattle.stalin_outside.specs.Calls.{raised}
+use Rattle.std.proofs.Common.{◌∙◌}
 use Rattle.stalin_outside.proofs.Counting.{list_any-lists}
 use Rattle.stalin_outside.proofs.calls.Calls.count.Goals as goal
 

@@ -1,4 +1,4 @@
-use Rattle.std.proofs.Common.{◌≡◌, ap}
+use Rattle.std.proofs.Common.{ap}
 use Rattle.stalin_outside.specs.Calls.{next_fails}
 use Rattle.stalin_outside.specs.Shelf.{last_name}
 use Rattle.stalin_outside.specs.MemShelf.{left_of}

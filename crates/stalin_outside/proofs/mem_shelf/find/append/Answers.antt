@@ -1,6 +1,6 @@
 use Rattle.std.proofs.Common.{◌≡◌, length, min, take, sym, ap, ◌∙◌, refl, arith}
-use Rattle.stalin_outside.specs.Stored.{stored, grown, free_room}
-use Rattle.stalin_outside.proofs.Finding.{place_is, stored_at, stored_none, changed_at, changed_none}
+use Rattle.stalin_outside.specs.Stored.{grown, free_room}
+use Rattle.stalin_outside.proofs.Finding.{place_is, stored_at, stored_none, changed_at}
 use Rattle.stalin_outside.proofs.mem_shelf.find.append.Goals as goal
 
 pub returns-in-Some-clause-count : goal.returns-in-Some-clause-count

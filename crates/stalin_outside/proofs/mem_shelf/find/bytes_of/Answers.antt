@@ -1,6 +1,4 @@
-use Rattle.std.proofs.Common.{◌≡◌, sym, ap, ◌∙◌}
-use Rattle.std.specs.Option.{option_map}
-use Rattle.stalin_outside.specs.Stored.{Stored}
+use Rattle.std.proofs.Common.{sym, ◌∙◌}
 use Rattle.stalin_outside.proofs.Finding.{place_is, stored_at, stored_none}
 use Rattle.stalin_outside.proofs.mem_shelf.find.bytes_of.Goals as goal
 

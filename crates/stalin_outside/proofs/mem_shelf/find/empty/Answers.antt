@@ -1,4 +1,4 @@
-use Rattle.std.proofs.Common.{◌≡◌, sym, ap, ◌∙◌, refl, rules}
+use Rattle.std.proofs.Common.{sym, ◌∙◌, refl, rules}
 use Rattle.stalin_outside.specs.Stored.{emptied}
 use Rattle.stalin_outside.proofs.Finding.{place_is, stored_at, stored_none, changed_at, changed_none}
 use Rattle.stalin_outside.proofs.mem_shelf.find.empty.Goals as goal

@@ -1,4 +1,4 @@
-use Rattle.std.proofs.Common.{◌≡◌, List, [], ◌∷◌, ◌++◌, sym, subst, ap, ◌∙◌, position}
+use Rattle.std.proofs.Common.{List, sym, subst, ap, ◌∙◌, position}
 use Rattle.stalin_outside.specs.Stored.{Stored, is_named, Puts}
 use Rattle.std.specs.Prelude.{Some}
 use Rattle.stalin_outside.proofs.Finding.{place_is, stored_none, puts_at, puts_end}

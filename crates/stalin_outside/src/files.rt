@@ -1,0 +1,158 @@
+ghost use Rattle.std.specs.Prelude.{◌≡◌, ◌≤◌, IfOk, []};
+
+use crate::asks::Asks;
+use crate::retry::{read_some, write_some};
+use crate::shelf::{Begun, Got, Kind, Shelf, Took};
+use std::alloc::{AllocError, Global};
+use std::fs::OpenOptions;
+use std::os::unix::fs::OpenOptionsExt;
+use std::rt::Files;
+use std::{io, mem};
+
+/// The permission bits of a file that is created, before the process's mask takes its own away: an image
+/// can be executed as it is.
+const CREATED_MODE: u32 = 0o777;
+
+/// The file that is begun.
+#[derive(Drop)]
+pub enum Held<F: Drop> {
+    Nothing,
+    ToRead(F),
+    ToWrite(F),
+}
+
+/// The files of the system. It tells no content.
+///
+/// A file that is there keeps its mode when it is begun for writing. A read of a directory fails.
+#[derive(Drop)]
+pub struct FileShelf<R: Files + Drop> {
+    rt: R,
+    alloc: Global,
+    held: Held<R::File>,
+    asks: Asks,
+    faults: u64,
+}
+
+impl<R: Files + Drop> FileShelf<R> {
+    ghost use Rattle.stalin_outside.specs.Calls.{raised};
+    ghost use Rattle.stalin_outside.specs.FileShelf.{kind_of};
+
+    /// A shelf over the files that `rt` reaches, with no file begun.
+    pub fn new(rt: R, alloc: Global) -> Result<FileShelf<R>, AllocError>
+        ensures asks { IfOk result (λ shelf. shelf.asks ≡ []) }
+        ensures kind { IfOk result (λ shelf. kind_of shelf.held ≡ Kind.Nothing) }
+        ensures faults { IfOk result (λ shelf. shelf.faults ≡ 0) }
+    {
+        Ok(FileShelf {
+            rt,
+            alloc,
+            held: Held::Nothing,
+            asks: Asks::new(alloc),
+            faults: 0,
+        })
+    }
+
+    /// Ends what was begun, by a fault.
+    fn fail(&mut self)
+        ensures kind { kind_of self.new.held ≡ Kind.Nothing }
+        ensures asks { self.new.asks ≡ self.old.asks }
+        ensures cause { self.new.faults ≡ raised self.old.faults }
+        ensures later { self.old.faults ≤ self.new.faults }
+    {
+        self.held = Held::Nothing;
+        self.faults = self.faults.saturating_add(1);
+    }
+}
+
+impl<R: Files + Drop> Shelf for FileShelf<R> {
+    ghost use Rattle.std.specs.Prelude.{None, [], List, ℕ};
+    ghost use Rattle.stalin_outside.specs.FileShelf.{kind_of};
+
+    ghost files = { λ shelf. None };
+
+    ghost left = { λ shelf. [] };
+
+    ghost begun = { λ shelf. kind_of shelf.held };
+
+    ghost asks = { λ shelf. shelf.asks };
+
+    ghost faults = { λ shelf. shelf.faults };
+
+    fn begin_read(&mut self, name: &str) -> Begun {
+        if self.asks.note_read(name).is_err() {
+            return Begun::NoMemory;
+        }
+        match OpenOptions::new().read(true).open(&self.rt, name) {
+            Ok(file) => {
+                self.held = Held::ToRead(file);
+                Begun::Ready
+            }
+            Err(_) => {
+                self.fail();
+                Begun::Failed
+            }
+        }
+    }
+
+    fn read(&mut self, buf: &mut [u8]) -> Got {
+        let Held::ToRead(mut file) = mem::replace(&mut self.held, Held::Nothing) else {
+            self.fail();
+            return Got::Failed;
+        };
+        match read_some(&mut file, buf) {
+            Some(0) => Got::End,
+            Some(count) => {
+                self.held = Held::ToRead(file);
+                Got::Bytes(count)
+            }
+            None => {
+                self.fail();
+                Got::Failed
+            }
+        }
+    }
+
+    fn begin_write(&mut self, name: &str) -> Begun {
+        if self.asks.note_write(name).is_err() {
+            return Begun::NoMemory;
+        }
+        match create(&self.rt, name) {
+            Ok(file) => {
+                self.held = Held::ToWrite(file);
+                Begun::Ready
+            }
+            Err(_) => {
+                self.fail();
+                Begun::Failed
+            }
+        }
+    }
+
+    fn write(&mut self, piece: &[u8]) -> Took {
+        let Held::ToWrite(mut file) = mem::replace(&mut self.held, Held::Nothing) else {
+            self.fail();
+            return Took::Failed;
+        };
+        match write_some(&mut file, piece) {
+            Some(count) if count > 0 => {
+                self.held = Held::ToWrite(file);
+                Took::Bytes(count)
+            }
+            _ => {
+                self.fail();
+                Took::Failed
+            }
+        }
+    }
+}
+
+/// Opens a file for writing and empties it; one that is not there is created.
+fn create<R: Files>(rt: &R, name: &str) -> io::Result<R::File> {
+    let mut options = OpenOptions::new();
+    options
+        .write(true)
+        .create(true)
+        .truncate(true)
+        .mode(CREATED_MODE);
+    options.open(rt, name)
+}

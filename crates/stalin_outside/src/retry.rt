@@ -1,0 +1,31 @@
+ghost use Rattle.std.specs.Prelude.{◌≤◌, length, IfSome};
+
+use std::io::{ErrorKind, Read, Write};
+
+/// Reads once, again where a signal interrupts, and tells how many bytes came; None is a fault.
+pub fn read_some<R: Read>(reader: &mut R, buf: &mut [u8]) -> Option<usize>
+    ensures { IfSome result (λ count. count ≤ length buf.new) }
+{
+    for _turn in 0..u64::MAX {
+        match reader.read(buf) {
+            Ok(count) => return Some(count),
+            Err(error) if error.kind() == ErrorKind::Interrupted => {}
+            Err(_) => return None,
+        }
+    }
+    None
+}
+
+/// Writes once, again where a signal interrupts, and tells how many bytes went; None is a fault.
+pub fn write_some<W: Write>(writer: &mut W, piece: &[u8]) -> Option<usize>
+    ensures { IfSome result (λ count. count ≤ length piece.now) }
+{
+    for _turn in 0..u64::MAX {
+        match writer.write(piece) {
+            Ok(count) => return Some(count),
+            Err(error) if error.kind() == ErrorKind::Interrupted => {}
+            Err(_) => return None,
+        }
+    }
+    None
+}

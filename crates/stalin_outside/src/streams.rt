@@ -1,0 +1,88 @@
+ghost use Rattle.std.specs.Prelude.{◌≡◌, ◌≤◌, IfOk};
+
+use crate::console::{Console, In, Out};
+use crate::retry::{read_some, write_some};
+use std::alloc::AllocError;
+use std::io::{Read, Write};
+
+/// A console over three streams, as those of the process. It tells no content.
+///
+/// Each call reads or writes one byte of its stream at once.
+#[derive(Drop)]
+pub struct StdConsole<I: Read + Drop, O: Write + Drop, E: Write + Drop> {
+    input: I,
+    output: O,
+    errors: E,
+    faults: u64,
+    err_faults: u64,
+}
+
+impl<I: Read + Drop, O: Write + Drop, E: Write + Drop> StdConsole<I, O, E> {
+    /// A console over these streams. It takes no memory, and so always answers.
+    pub fn new(input: I, output: O, errors: E) -> Result<StdConsole<I, O, E>, AllocError>
+        ensures faults { IfOk result (λ console. console.faults ≡ 0) }
+        ensures err_faults { IfOk result (λ console. console.err_faults ≡ 0) }
+    {
+        Ok(StdConsole {
+            input,
+            output,
+            errors,
+            faults: 0,
+            err_faults: 0,
+        })
+    }
+}
+
+/// Writes a byte, and tells whether the stream took it.
+fn put<W: Write>(writer: &mut W, byte: u8) -> Out {
+    match write_some(writer, &[byte]) {
+        Some(count) if count > 0 => Out::Took,
+        _ => Out::Failed,
+    }
+}
+
+impl<I: Read + Drop, O: Write + Drop, E: Write + Drop> Console for StdConsole<I, O, E> {
+    ghost use Rattle.std.specs.Prelude.{None};
+
+    ghost input = { λ console. None };
+
+    ghost output = { λ console. None };
+
+    ghost errors = { λ console. None };
+
+    ghost answers = { λ console. None };
+
+    ghost err_answers = { λ console. None };
+
+    ghost faults = { λ console. console.faults };
+
+    ghost err_faults = { λ console. console.err_faults };
+
+    fn input(&mut self) -> In {
+        let mut byte = [0u8];
+        match read_some(&mut self.input, &mut byte) {
+            Some(0) => In::End,
+            Some(_) => In::Byte(byte[0]),
+            None => {
+                self.faults = self.faults.saturating_add(1);
+                In::Failed
+            }
+        }
+    }
+
+    fn out(&mut self, byte: u8) -> Out {
+        let answer = put(&mut self.output, byte);
+        if answer == Out::Failed {
+            self.faults = self.faults.saturating_add(1);
+        }
+        answer
+    }
+
+    fn err(&mut self, byte: u8) -> Out {
+        let answer = put(&mut self.errors, byte);
+        if answer == Out::Failed {
+            self.err_faults = self.err_faults.saturating_add(1);
+        }
+        answer
+    }
+}
