@@ -1,3 +1,4 @@
 pub mod CommandLemmas
 pub mod FileLemmas
+pub mod Outcomes
 pub mod SendingLemmas

@@ -1,4 +1,5 @@
 pub mod Answer
 pub mod Command
 pub mod Files
+pub mod Headline
 pub mod Sending

@@ -2,6 +2,7 @@
 use Rattle.std.specs.Prelude.{ℕ, ◌≡◌, ◌≤◌, List, ◌++◌, length, take, Bool, true, false, Option, Some, None}
 use Rattle.std.specs.List.{flat_map}
 use Rattle.std.specs.Borrow.{Bor}
+use Rattle.stalin_outside.specs.Causes.{HasCause}
 
 -- the parts of a text, one after another
 abbrev pub joined : List (Bor (List ℕ)) → List ℕ
@@ -17,3 +18,9 @@ abbrev pub Sends : (before now : Option (List ℕ)) (text : List ℕ) (whole : B
 Sends None now text whole = Unit {0}
 Sends (Some before) None text whole = ⊥
 Sends (Some before) (Some now) text whole = Added before now text whole
+
+-- a text was sent up to the first call that failed
+pub record Tells (text : List ℕ) (before now : Option (List ℕ)) (faults faults_now : ℕ) : Type 0 where
+  pub whole : Bool
+  pub sent : Sends before now text whole
+  pub cause : HasCause faults faults_now (whole ≡ false)

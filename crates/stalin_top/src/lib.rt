@@ -1,9 +1,16 @@
 //! The top call: the words of a command in, an answer out.
+//!
+//! `specs/Headline` is what the program promises, and `stalin` carries it. The call reads the command's
+//! words (`command`) and the source through a shelf (`files`), has the source read and its image made
+//! (`compile`), writes the image, and sends the answer's text to the error channel (`sending`).
 #![tactic(auto)]
 
 mod answer;
 mod command;
+mod compile;
 mod files;
 mod sending;
+mod top;
 
 pub use answer::{Answer, status};
+pub use top::stalin;

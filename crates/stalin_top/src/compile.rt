@@ -1,0 +1,57 @@
+ghost use Rattle.std.specs.Prelude.{◌≡◌, ◌≤◌, ◌^◌, length, IfOk, IfErr};
+ghost use Rattle.stalin_outside.specs.Causes.{HasCause};
+ghost use Rattle.stalin_outside.specs.Shelf.{WhereTold};
+ghost use Rattle.first_form.specs.Form.{HasFault};
+ghost use Rattle.stalin_top.specs.Headline.{IsCompiled, Outcome, IsAsked, IsNoUsage};
+
+use crate::Answer;
+use crate::files::{self, Reading, Writing, read_source, write_file};
+use first_form::FirstErr;
+use scheme_base::{Bytes, Limit, LimitKind};
+use stalin_outside::Shelf;
+use std::alloc::Global;
+
+/// The answer to a source of more bytes than there may be.
+const TOO_LARGE: Answer = Answer::TooLarge(Limit {
+    which: LimitKind::Source,
+    count: files::MOST as u64 + 1,
+});
+
+/// Writes the image of the program in the file `input` to the file `output`.
+pub(crate) fn compile<H: Shelf>(alloc: Global, shelf: &mut H, input: &str, output: &str) -> Answer
+    ensures outcome { WhereTold (Outcome input.now output.now result) (H.files shelf.old) (H.files shelf.new) }
+    ensures asks { IsAsked input.now output.now result (H.asks shelf.old) (H.asks shelf.new) }
+    ensures cause { HasCause (H.faults shelf.old) (H.faults shelf.new) (result ≡ Answer.FileFault) }
+    ensures command { IsNoUsage result }
+{
+    let source = match read_source(alloc, shelf, input) {
+        Reading::Whole(source) => source,
+        Reading::TooLong => return TOO_LARGE,
+        Reading::Fault => return Answer::FileFault,
+        Reading::NoMemory => return Answer::NoMemory,
+    };
+    let image = match build(alloc, source.as_slice()) {
+        Ok(image) => image,
+        Err(FirstErr::NotYet { pos }) => return Answer::NotYet { pos },
+        Err(FirstErr::NoMemory) => return Answer::NoMemory,
+    };
+    match write_file(shelf, output, image.as_slice()) {
+        Writing::Done => Answer::Done,
+        Writing::Fault => Answer::FileFault,
+        Writing::NoMemory => Answer::NoMemory,
+    }
+}
+
+/// The image of the program that a text is.
+fn build(alloc: Global, source: &[u8]) -> Result<Bytes, FirstErr>
+    requires { length source.now ≤ 2 ^ 20 }
+    ensures image { IfOk result (λ image. IsCompiled source.now image) }
+    ensures fault { IfErr result (λ err. HasFault source.now err) }
+{
+    let chars = first_form::read(alloc, source)?;
+    first_image::agrees(chars.as_slice());
+    let Ok(image) = first_image::write(alloc, chars.as_slice()) else {
+        return Err(FirstErr::NoMemory);
+    };
+    Ok(image)
+}
