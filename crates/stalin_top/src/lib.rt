@@ -10,6 +10,8 @@ mod command;
 mod compile;
 mod files;
 mod sending;
+#[cfg(test)]
+mod tests;
 mod top;
 
 pub use answer::{Answer, status};
