@@ -40,3 +40,52 @@ fn fill<R: Env>(rt: &R, at: usize, room: &mut Vec<u8>) -> Result<Option<usize>, 
     }
     Err(AllocError)
 }
+
+#[cfg(test)]
+mod tests {
+    use super::*;
+    use std::test::Fail;
+
+    /// A process with these arguments after its name.
+    #[derive(Drop)]
+    struct Given {
+        arguments: [&'static [u8]; 4],
+    }
+
+    impl Env for Given {
+        fn arg(&self, i: usize, buf: &mut [u8]) -> Result<usize, FillError> {
+            if i == 0 || i > self.arguments.len() {
+                return Err(FillError::NotPresent);
+            }
+            let argument = self.arguments[i - 1];
+            if argument.len() > buf.len() {
+                return Err(FillError::TooLong);
+            }
+            buf[..argument.len()].copy_from_slice(argument);
+            Ok(argument.len())
+        }
+
+        fn var(&self, _name: &str, _buf: &mut [u8]) -> Result<usize, FillError> {
+            Err(FillError::NotPresent)
+        }
+
+        fn var_at(&self, _i: usize, _buf: &mut [u8]) -> Result<usize, FillError> {
+            Err(FillError::NotPresent)
+        }
+    }
+
+    #[test]
+    fn words_are_the_arguments(rt: HostRuntime) -> Result<(), Fail> {
+        let long = [b'a'; 1000];
+        let given = Given {
+            arguments: [b"compile", b"a\xffb", b"\xc3\xa9", &[b'a'; 1000]],
+        };
+        let words = words(&given, rt.alloc())?;
+        assert_eq!(rt; words.len(), 4);
+        assert_eq!(rt; words.word(0), Some("compile"));
+        assert_eq!(rt; words.word(1), Some(""));
+        assert_eq!(rt; words.word(2), Some("\u{e9}"));
+        assert_eq!(rt; words.word(3).map(|word| word.len()), Some(long.len()));
+        Ok(())
+    }
+}
