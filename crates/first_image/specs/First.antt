@@ -12,7 +12,8 @@ use Rattle.rv_form.specs.Numbers.{far_part, near_part}
 use Rattle.rv_form.specs.Instruction.{code_bytes}
 use Rattle.first_image.specs.File.{file_of}
 
--- the code for so many characters; each row begins at the place that stands beside it
+-- The code for so many characters. Each row begins at the place that stands above it, and a branch or
+-- a jump names its distance: `negsuc 35` is -36.
 abbrev pub first_code : ℕ → List Instr
 first_code count =
     -- 0: register 18 at the first character, 19 past the last

@@ -114,7 +114,7 @@ asked w s =
     else (if nat_eq (reg s 17) 93 then Leaves (reg s 10 % 256)
     else Unknown))
 
--- the answer of a call through which a byte may pass
+-- the answer of a call through which a byte may pass: 1, and 0 at the end of the input, -5 at a failure
 abbrev pub answer_of : Event → ℤ
 answer_of (ReadByte byte) = pos 1
 answer_of ReadEnd = pos 0
