@@ -1,3 +1,4 @@
 mod Counting
 mod Finding
 mod Told
+mod Known

@@ -7,3 +7,4 @@ pub mod MemShelf
 pub mod Shelf
 pub mod Stored
 pub mod Stream
+pub mod Streams

@@ -1,7 +1,7 @@
 -- What the calls of a shelf do to its files, to the file that is begun, and to the list of its asks.
 --
 -- Files are a function from names to contents, where the shelf tells them: None is a file that is not
--- there. A shelf that tells none promises nothing about contents, and all else.
+-- there. A shelf that tells none promises nothing about contents, but everything else.
 use Rattle.std.specs.Prelude.{ℕ, ◌≡◌, ◌≢◌, ◌≤◌, List, [], ◌∷◌, ◌++◌, length, take, Option, Some, None}
 use Rattle.std.specs.Option.{option_map}
 use Rattle.stalin_outside.specs.declared.shelf.Ask.{Ask}

@@ -21,7 +21,8 @@ pub enum Held<F: Drop> {
     ToWrite(F),
 }
 
-/// The files of the system. It tells no content.
+/// The files of the system. It tells no content by name; of the file that is begun each call says what its
+/// stream tells of itself.
 ///
 /// A file that is there keeps its mode when it is begun for writing. A read of a directory fails.
 #[derive(Drop)]
@@ -65,8 +66,10 @@ impl<R: Files + Drop> FileShelf<R> {
 }
 
 impl<R: Files + Drop> Shelf for FileShelf<R> {
-    ghost use Rattle.std.specs.Prelude.{None, [], List, ℕ};
-    ghost use Rattle.stalin_outside.specs.FileShelf.{kind_of};
+    ghost use Rattle.std.specs.Prelude.{None, [], List, ℕ, ◌<◌, length};
+    ghost use Rattle.stalin_outside.specs.Causes.{HasCause};
+    ghost use Rattle.stalin_outside.specs.Shelf.{Gives, Appends, kind_after_read, kind_after_write, last_name};
+    ghost use Rattle.stalin_outside.specs.FileShelf.{kind_of, HeldRead, HeldWrite};
 
     ghost files = { λ shelf. None };
 
@@ -94,7 +97,15 @@ impl<R: Files + Drop> Shelf for FileShelf<R> {
         }
     }
 
-    fn read(&mut self, buf: &mut [u8]) -> Got {
+    fn read(&mut self, buf: &mut [u8]) -> Got
+        requires reading { kind_of self.old.held ≡ Kind.ForReading }
+        requires room { 0 < length buf.old }
+        ensures count { Gives None buf.new result [] [] }
+        ensures bytes { HeldRead R.File.remaining buf.new result self.old.held self.new.held }
+        ensures begun { kind_of self.new.held ≡ kind_after_read result }
+        ensures asks { self.new.asks ≡ self.old.asks }
+        ensures cause { HasCause self.old.faults self.new.faults (result ≡ Got.Failed) }
+    {
         let Held::ToRead(mut file) = mem::replace(&mut self.held, Held::Nothing) else {
             self.fail();
             return Got::Failed;
@@ -128,7 +139,15 @@ impl<R: Files + Drop> Shelf for FileShelf<R> {
         }
     }
 
-    fn write(&mut self, piece: &[u8]) -> Took {
+    fn write(&mut self, piece: &[u8]) -> Took
+        requires writing { kind_of self.old.held ≡ Kind.ForWriting }
+        requires some { 0 < length piece.now }
+        ensures files { Appends (last_name self.old.asks) piece.now result None None }
+        ensures bytes { HeldWrite R.File.contents piece.now result self.old.held self.new.held }
+        ensures begun { kind_of self.new.held ≡ kind_after_write result }
+        ensures asks { self.new.asks ≡ self.old.asks }
+        ensures cause { HasCause self.old.faults self.new.faults (result ≡ Took.Failed) }
+    {
         let Held::ToWrite(mut file) = mem::replace(&mut self.held, Held::Nothing) else {
             self.fail();
             return Took::Failed;

@@ -24,3 +24,6 @@ pub use mem_console::MemConsole;
 pub use mem_shelf::MemShelf;
 pub use shelf::{Ask, Begun, Got, Kind, Shelf, Took};
 pub use streams::StdConsole;
+
+#[cfg(test)]
+mod tests;

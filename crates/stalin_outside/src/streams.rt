@@ -1,11 +1,13 @@
 ghost use Rattle.std.specs.Prelude.{◌≡◌, ◌≤◌, IfOk};
+ghost use Rattle.stalin_outside.specs.Streams.{ReadByte, WroteByte};
 
 use crate::console::{Console, In, Out};
 use crate::retry::{read_some, write_some};
 use std::alloc::AllocError;
 use std::io::{Read, Write};
 
-/// A console over three streams, as those of the process. It tells no content.
+/// A console over three streams, as those of the process. It tells no content; each call says what its
+/// stream tells of itself.
 ///
 /// Each call reads or writes one byte of its stream at once.
 #[derive(Drop)]
@@ -34,7 +36,9 @@ impl<I: Read + Drop, O: Write + Drop, E: Write + Drop> StdConsole<I, O, E> {
 }
 
 /// Writes a byte, and tells whether the stream took it.
-fn put<W: Write>(writer: &mut W, byte: u8) -> Out {
+fn put<W: Write>(writer: &mut W, byte: u8) -> Out
+    ensures { WroteByte byte (W.contents writer.old) (W.contents writer.new) result }
+{
     match write_some(writer, &[byte]) {
         Some(count) if count > 0 => Out::Took,
         _ => Out::Failed,
@@ -43,6 +47,7 @@ fn put<W: Write>(writer: &mut W, byte: u8) -> Out {
 
 impl<I: Read + Drop, O: Write + Drop, E: Write + Drop> Console for StdConsole<I, O, E> {
     ghost use Rattle.std.specs.Prelude.{None};
+    ghost use Rattle.stalin_outside.specs.Causes.{HasCause};
 
     ghost input = { λ console. None };
 
@@ -58,7 +63,11 @@ impl<I: Read + Drop, O: Write + Drop, E: Write + Drop> Console for StdConsole<I,
 
     ghost err_faults = { λ console. console.err_faults };
 
-    fn input(&mut self) -> In {
+    fn input(&mut self) -> In
+        ensures byte { ReadByte (I.remaining self.old.input) (I.remaining self.new.input) result }
+        ensures others { self.new ≡ record self.old { input = self.new.input; faults = self.new.faults } }
+        ensures cause { HasCause self.old.faults self.new.faults (result ≡ In.Failed) }
+    {
         let mut byte = [0u8];
         match read_some(&mut self.input, &mut byte) {
             Some(0) => In::End,
@@ -70,7 +79,11 @@ impl<I: Read + Drop, O: Write + Drop, E: Write + Drop> Console for StdConsole<I,
         }
     }
 
-    fn out(&mut self, byte: u8) -> Out {
+    fn out(&mut self, byte: u8) -> Out
+        ensures byte { WroteByte byte (O.contents self.old.output) (O.contents self.new.output) result }
+        ensures others { self.new ≡ record self.old { output = self.new.output; faults = self.new.faults } }
+        ensures cause { HasCause self.old.faults self.new.faults (result ≡ Out.Failed) }
+    {
         let answer = put(&mut self.output, byte);
         if answer == Out::Failed {
             self.faults = self.faults.saturating_add(1);
@@ -78,7 +91,11 @@ impl<I: Read + Drop, O: Write + Drop, E: Write + Drop> Console for StdConsole<I,
         answer
     }
 
-    fn err(&mut self, byte: u8) -> Out {
+    fn err(&mut self, byte: u8) -> Out
+        ensures byte { WroteByte byte (E.contents self.old.errors) (E.contents self.new.errors) result }
+        ensures others { self.new ≡ record self.old { errors = self.new.errors; err_faults = self.new.err_faults } }
+        ensures cause { HasCause self.old.err_faults self.new.err_faults (result ≡ Out.Failed) }
+    {
         let answer = put(&mut self.errors, byte);
         if answer == Out::Failed {
             self.err_faults = self.err_faults.saturating_add(1);

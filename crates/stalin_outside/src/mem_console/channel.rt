@@ -11,7 +11,8 @@ use scheme_base::Numbers;
 use std::alloc::{AllocError, Global};
 use std::marker::Model;
 
-/// A stream of bytes with the answers of its calls, whose room is taken when it is made.
+/// A stream of bytes with the answers of its calls, whose room is taken when it is made: no later push
+/// finds none.
 ///
 /// Calls fail where they are listed, and all fail once there is no room for their answers.
 #[derive(Drop)]

@@ -64,6 +64,7 @@ impl MemFile {
         let count = piece.len().min(self.room.saturating_sub(self.bytes.len()));
         match self.bytes.extend_from_slice(&piece[..count]) {
             Ok(()) => count,
+            // the room is there
             Err(_) => 0,
         }
     }
