@@ -1,6 +1,6 @@
 -- What one read or write of a stream does to the bytes that are left in it or that it holds, where the
 -- stream tells them.
-use Rattle.std.specs.Prelude.{ℕ, ◌≡◌, ◌<◌, ◌≤◌, List, [], ◌∷◌, length, take, Option, Some, None}
+use Rattle.std.specs.Prelude.{ℕ, ◌≡◌, ◌<◌, List, [], ◌∷◌, length, take, Option, Some, None}
 use Rattle.std.specs.Io.KnownBytes.{Appends, Consumes, IsAtEnd, Keeps}
 use Rattle.stalin_outside.specs.declared.console.In.{In}
 use Rattle.stalin_outside.specs.declared.console.In.TheVariants as inputs
