@@ -2,9 +2,9 @@
 use Rattle.std.proofs.Common.{◌≡◌, ℕ, ◌-◌, List, [], ◌∷◌, ◌++◌, length, take, refl, ap, sym, ◌∙◌, subst, append_assoc}
 use Rattle.scheme_base.specs.declared.pos.Pos.{Pos}
 use Rattle.first_form.specs.declared.token.Kind.{Kind}
-use Rattle.first_form.specs.Form.{kinds_of, written, Reads, Begins, Stops, Unfit, IsNotYet}
+use Rattle.first_form.specs.Form.{kinds_of, written, Reads, Begins, Stops, IsNotYet}
 use Rattle.first_form.specs.Place.{place_after}
-use Rattle.first_form.specs.Tokens.{Token, tokens_of}
+use Rattle.first_form.specs.Tokens.{Token}
 use Rattle.first_form.proofs.Stages.{append-none, kinds_of-append}
 
 written-once : (xs ys : List ℕ) → written xs ≡ written ys → xs ≡ ys
@@ -30,8 +30,8 @@ no_text before (t ∷ others) left xs stops e =
       chars = xs;
       more = kinds_of others;
       whole =
-        append_assoc (kinds_of before) (t.kind ∷ []) (kinds_of others)
-        ∙ (sym (kinds_of-append before (t ∷ others)) ∙ e);
+          append_assoc (kinds_of before) (t.kind ∷ []) (kinds_of others)
+          ∙ (sym (kinds_of-append before (t ∷ others)) ∙ e);
     })
 
 pub apart : (text xs : List ℕ) (pos : Pos) → Reads text xs → IsNotYet text pos → ⊥
@@ -92,6 +92,6 @@ one_stop front (x ∷ a) (y ∷ b) others others' m n e p q s t =
 pub one_place : (text : List ℕ) (p q : Pos) → IsNotYet text p → IsNotYet text q → p ≡ q
 one_place text p q n m =
     let left : n.left ≡ m.left =
-        one_stop [] n.unfit.before m.unfit.before n.unfit.others m.unfit.others n.left m.left
-        (sym n.unfit.whole ∙ m.unfit.whole) n.unfit.begins m.unfit.begins n.unfit.stops m.unfit.stops in
+    one_stop [] n.unfit.before m.unfit.before n.unfit.others m.unfit.others n.left m.left
+    (sym n.unfit.whole ∙ m.unfit.whole) n.unfit.begins m.unfit.begins n.unfit.stops m.unfit.stops in
     n.place ∙ (ap (λ k. place_after (take (length text - k) text)) left ∙ sym m.place)

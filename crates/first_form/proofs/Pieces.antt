@@ -46,7 +46,7 @@ positive_choice true mark n m h = omega arith
 positive_choice false true n m h = omega arith
 positive_choice false false n m h = h refl
 
-positive_length : (b : ℕ) (bytes : List ℕ) → 0 < token_length (b ∷ bytes)
+pub positive_length : (b : ℕ) (bytes : List ℕ) → 0 < token_length (b ∷ bytes)
 positive_length b bytes =
     positive_choice (is_delimiter b) (starts_with nat_eq (b ∷ bytes) (codes "#\\")) (run_length (drop 2 bytes)) (run_length (b ∷ bytes))
     (λ e. passes-first (λ b. not (is_delimiter b)) b bytes (ap not e))

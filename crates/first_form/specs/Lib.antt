@@ -1,4 +1,5 @@
 pub mod Form
+pub mod Grammar
 pub mod Place
 pub mod Scan
 pub mod Stage

@@ -1,4 +1,4 @@
-ghost use Rattle.std.specs.Prelude.{◌≡◌, ◌+◌, ◌-◌, ◌^◌, ◌<◌, ◌≤◌, length, take, IfOk, IfErr};
+ghost use Rattle.std.specs.Prelude.{◌≡◌, ◌+◌, ◌-◌, ◌^◌, ◌<◌, ◌≤◌, length, take, All, IfOk, IfErr};
 ghost use Rattle.first_form.specs.Form.{Reads, HasFault};
 ghost use Rattle.first_form.specs.Place.{place_after};
 
@@ -15,6 +15,7 @@ pub fn read(alloc: Global, source: &[u8]) -> Result<Bytes, FirstErr>
     ensures reads { IfOk result (λ chars. Reads source.now chars) }
     ensures fault { IfErr result (λ err. HasFault source.now err) }
     ensures few { IfOk result (λ chars. length chars ≤ length source.now) }
+    ensures bytes { IfOk result (λ chars. All (λ c. c < 256) chars) }
 {
     let mut chars = List::new(alloc);
     let mut stage = Stage::Outside;

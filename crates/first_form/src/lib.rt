@@ -4,6 +4,8 @@
 //! A text is cut into tokens by the longest match, as in R4RS 2.2 and 7.1.1: `specs/Tokens`. It is of
 //! this form where its tokens are those of such forms one after another, and what does not fit is the
 //! first token with which no text of this form goes on: `specs/Form`, which `read` meets both ways.
+//! `specs/Grammar` says by the bytes alone what a text of this form is, and `same_texts` is the law that
+//! both say the same; `one_answer` is the law that a text has one answer.
 #![tactic(auto)]
 
 mod error;
@@ -11,8 +13,10 @@ mod form;
 mod law;
 mod place;
 mod stage;
+#[cfg(test)]
+mod tests;
 mod token;
 
 pub use error::FirstErr;
 pub use form::read;
-pub use law::one_answer;
+pub use law::{one_answer, same_texts};

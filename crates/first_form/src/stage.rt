@@ -1,4 +1,4 @@
-ghost use Rattle.std.specs.Prelude.{◌≡◌, OnOk};
+ghost use Rattle.std.specs.Prelude.{◌≡◌, ◌<◌, All, OnOk};
 ghost use Rattle.first_form.specs.Stage.{stage_after, kept};
 
 use crate::token::Kind;
@@ -32,7 +32,8 @@ impl Stage {
 
     /// Keeps the character of a form that the next token closes.
     pub(crate) fn keep(self, chars: &mut Bytes) -> Result<(), AllocError>
-        ensures { OnOk result (chars.new ≡ kept self chars.old) }
+        ensures kept { OnOk result (chars.new ≡ kept self chars.old) }
+        ensures bytes { All (λ c. c < 256) chars.old → All (λ c. c < 256) chars.new }
     {
         match self {
             Stage::Written(byte) => chars.push(byte),

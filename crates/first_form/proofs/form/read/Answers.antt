@@ -17,8 +17,9 @@ returns-in_default-after-clause-fault c =
 pub loop-token-preserved : goal.loop-token-preserved
 loop-token-preserved c =
     let token = c.in-Some.token in
-    let keeps : c.keep.new.chars ≡ kept c.loop-token.stage c.loop-token.chars = c.in-Ok.ensures in
+    let keeps : c.keep.new.chars ≡ kept c.loop-token.stage c.loop-token.chars = c.in-Ok.ensures.kept in
     record {
+      bytes = c.keep.ensures.bytes c.loop-token.invariant.bytes;
       far =
           goes c.args.source.now c.loop-token.rest.now token.rest.now c.loop-token.stage c.in-Some-after.next
           c.loop-token.chars c.keep.new.chars _ c.loop-token.invariant.far c.in-Some.ensures.tokens

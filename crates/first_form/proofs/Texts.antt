@@ -1,0 +1,97 @@
+-- What is read is the texts of forms.
+use Rattle.std.proofs.Common.{◌≡◌, ◌≢◌, ℕ, zero, suc, ◌≤◌, true, false, List, [], ◌∷◌, ◌++◌, length, refl, ap, sym, ◌∙◌, subst, arith}
+use Rattle.first_form.specs.declared.token.Kind.TheVariants.{Open, Close, WriteChar, Character}
+use Rattle.first_form.specs.Form.{kinds_of, written, Reads}
+use Rattle.first_form.specs.Grammar.{IsName, IsCharacter, IsForms}
+use Rattle.first_form.specs.Grammar.IsForms.{ended, form}
+use Rattle.first_form.specs.Tokens.{tokens_of}
+use Rattle.first_form.proofs.Bytes.{Delimited, blank_tokens, last_tokens}
+use Rattle.first_form.proofs.Words.{delimited_after, delimited_blank, name_tokens, character_tokens, name_run, lower_run, marked, space_run, newline_run, Marked}
+use Rattle.std.specs.Prelude.{codes}
+use Rattle.first_form.specs.Grammar.IsCharacter.{itself, space, newline}
+use Rattle.first_form.proofs.Cuts.{NextWord, Stripped, next_word, no_word, strip}
+use Rattle.first_form.proofs.WordKinds.{open_word, close_word, name_word, character_word}
+
+-- forms are read
+pub forms_read : (text chars : List ℕ) → IsForms text chars → Reads text chars
+forms_read text chars (ended blank last b l) = ap kinds_of (blank_tokens blank last b ∙ last_tokens last l)
+forms_read text chars (form before inside name between character after rest cs c b i n w some ch a f) =
+    let closed : List ℕ = after ++ (41 ∷ rest) in
+    let middle : List ℕ = between ++ (character ++ closed) in
+    let k1 : kinds_of (tokens_of (before ++ (40 ∷ (inside ++ (name ++ middle))))) ≡ Open ∷ kinds_of (tokens_of (inside ++ (name ++ middle))) =
+    ap kinds_of (blank_tokens before (40 ∷ (inside ++ (name ++ middle))) b) in
+    let k2 : kinds_of (tokens_of (inside ++ (name ++ middle))) ≡ WriteChar ∷ kinds_of (tokens_of middle) =
+    ap kinds_of (blank_tokens inside (name ++ middle) i)
+    ∙ name_tokens name middle n (delimited_blank between (character ++ closed) w some) in
+    let k3 : kinds_of (tokens_of middle) ≡ Character c ∷ kinds_of (tokens_of closed) =
+    ap kinds_of (blank_tokens between (character ++ closed) w)
+    ∙ character_tokens character closed c ch (delimited_after after (41 ∷ rest) a refl) in
+    let k4 : kinds_of (tokens_of closed) ≡ Close ∷ kinds_of (tokens_of rest) =
+    ap kinds_of (blank_tokens after (41 ∷ rest) a) in
+    k1 ∙ (ap (λ ks. Open ∷ ks) k2 ∙ (ap (λ ks. Open ∷ WriteChar ∷ ks) k3
+    ∙ (ap (λ ks. Open ∷ WriteChar ∷ Character c ∷ ks) k4
+    ∙ ap (λ ks. Open ∷ WriteChar ∷ Character c ∷ Close ∷ ks) (forms_read rest cs f))))
+
+-- a text that is read is forms
+ended_text : (text : List ℕ) → kinds_of (tokens_of text) ≡ [] → IsForms text []
+ended_text text h =
+    let s : Stripped text = strip (length text) text (omega arith) in
+    let P : List ℕ → Type 0 = λ t. IsForms t [] in
+    subst P (sym s.whole) (ended s.blank s.rest s.is_blank (no_word text h s))
+
+-- a character begins with a mark
+abbrev BeginsMarked : List ℕ → Type 0
+BeginsMarked [] = ⊥
+BeginsMarked (b ∷ bytes) = b ≡ 35
+
+named_marked : (small word : List ℕ) → Marked small word → BeginsMarked word
+named_marked small word m = let P : List ℕ → Type 0 = λ w. BeginsMarked w in subst P (sym m.whole) refl
+
+begins_marked : (word : List ℕ) (c : ℕ) → IsCharacter word c → BeginsMarked word
+begins_marked word c (itself b) = refl
+begins_marked word c (space w h) = named_marked (codes "pace") w (marked 115 (codes "pace") w h space_run)
+begins_marked word c (newline w h) = named_marked (codes "ewline") w (marked 110 (codes "ewline") w h newline_run)
+
+-- a name and a character do not touch
+apart :
+    (rest blank : List ℕ) (b : ℕ) (bytes : List ℕ) → Delimited rest → rest ≡ blank ++ (b ∷ bytes) → b ≡ 35 → blank ≢ []
+apart rest blank b bytes d whole mark empty =
+    let P : List ℕ → Type 0 = λ t. Delimited t in
+    let at : rest ≡ 35 ∷ bytes = whole ∙ (ap (λ e. e ++ (b ∷ bytes)) empty ∙ ap (λ x. x ∷ bytes) mark) in
+    let no : false ≡ true = subst P at d in
+    absurd (cc)
+
+pub read_forms : (n : ℕ) (text chars : List ℕ) → length text ≤ n → Reads text chars → IsForms text chars
+read_forms n text [] few h = ended_text text h
+read_forms zero [] (c ∷ cs) few h = absurd (cc)
+read_forms zero (b ∷ text) (c ∷ cs) few h = absurd (omega arith)
+read_forms (suc n) text (c ∷ cs) few h =
+    let o : NextWord text Open (WriteChar ∷ Character c ∷ Close ∷ written cs) = next_word text _ _ h in
+    let m : NextWord o.rest WriteChar (Character c ∷ Close ∷ written cs) = next_word o.rest _ _ o.others in
+    let k : NextWord m.rest (Character c) (Close ∷ written cs) = next_word m.rest _ _ m.others in
+    let e : NextWord k.rest Close (written cs) = next_word k.rest _ _ k.others in
+    let name : List ℕ = m.b ∷ m.bytes in
+    let word : List ℕ = k.b ∷ k.bytes in
+    let is_name : IsName (codes "write-char") name = name_word name m.kind in
+    let is_character : IsCharacter word c = character_word word c k.kind in
+    let run = lower_run name (codes "write-char") is_name name_run in
+    let open_is : o.b ∷ (o.bytes ++ o.rest) ≡ 40 ∷ o.rest = ap (λ w. w ++ o.rest) (open_word (o.b ∷ o.bytes) o.kind) in
+    let close_is : e.b ∷ (e.bytes ++ e.rest) ≡ 41 ∷ e.rest = ap (λ w. w ++ e.rest) (close_word (e.b ∷ e.bytes) e.kind) in
+    let some : k.blank ≢ [] =
+    apart m.rest k.blank k.b (k.bytes ++ k.rest) (m.ends run.0) k.whole (begins_marked word c is_character) in
+    let fourth : k.rest ≡ e.blank ++ (41 ∷ e.rest) = e.whole ∙ ap (λ t. e.blank ++ t) close_is in
+    let third : m.rest ≡ k.blank ++ (word ++ (e.blank ++ (41 ∷ e.rest))) =
+    k.whole ∙ ap (λ t. k.blank ++ (word ++ t)) fourth in
+    let second : o.rest ≡ m.blank ++ (name ++ (k.blank ++ (word ++ (e.blank ++ (41 ∷ e.rest))))) =
+    m.whole ∙ ap (λ t. m.blank ++ (name ++ t)) third in
+    let whole :
+    text ≡ o.blank ++ (40 ∷ (m.blank ++ (name ++ (k.blank ++ (word ++ (e.blank ++ (41 ∷ e.rest))))))) =
+    o.whole ∙ (ap (λ t. o.blank ++ t) open_is ∙ ap (λ t. o.blank ++ (40 ∷ t)) second) in
+    let short : length e.rest ≤ n = omega (arith, o.shorter, m.shorter, k.shorter, e.shorter) in
+    let P : List ℕ → Type 0 = λ t. IsForms t (c ∷ cs) in
+    subst P (sym whole)
+    (form o.blank m.blank name k.blank word e.blank e.rest cs c o.is_blank m.is_blank is_name k.is_blank some
+    is_character e.is_blank (read_forms n e.rest cs short e.others))
+
+pub same_text : (text chars : List ℕ) → (Reads text chars → IsForms text chars) × (IsForms text chars → Reads text chars)
+same_text text chars = ((λ h. read_forms (length text) text chars (omega arith) h), forms_read text chars)
