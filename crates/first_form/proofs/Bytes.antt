@@ -24,7 +24,7 @@ not_line_end : (b : ℕ) → b ≢ 10 → not (is_line_end b) ≡ true
 not_line_end b h = grind arith
 
 -- a comment has no token
-comment_bytes :
+pub comment_bytes :
     (words rest : List ℕ) → IsOneLine words
     → tokens_after (line_length (words ++ 10 ∷ rest)) (words ++ 10 ∷ rest) ≡ tokens_of rest
 comment_bytes [] rest one = refl
@@ -40,7 +40,7 @@ last_bytes (b ∷ words) one =
     (length_while-step (λ c. not (is_line_end c)) b words (not_line_end b one.0))
     ∙ last_bytes words one.1
 
-after_mark : (bytes : List ℕ) → tokens_of (59 ∷ bytes) ≡ tokens_after (line_length bytes) bytes
+pub after_mark : (bytes : List ℕ) → tokens_of (59 ∷ bytes) ≡ tokens_after (line_length bytes) bytes
 after_mark bytes =
     let one : line_length (59 ∷ bytes) - 1 ≡ line_length bytes =
     omega (arith, length_while-step (λ c. not (is_line_end c)) 59 bytes refl) in

@@ -149,6 +149,8 @@ pub record NextWord (text : List ℕ) (k : Kind) (ks : List Kind) : Type 0 where
   pub ends : is_delimiter b ≡ false → Delimited rest
   pub kind : kind_of (b ∷ bytes) ≡ k
   pub others : kinds_of (tokens_of rest) ≡ ks
+  pub tokens :
+      tokens_of text ≡ record { kind = kind_of (b ∷ bytes); left = length (b ∷ (bytes ++ rest)) } ∷ tokens_of rest
   pub shorter : length rest < length text
 
 word_at :
@@ -157,11 +159,16 @@ word_at :
     → kinds_of (tokens_of text) ≡ k ∷ ks → NextWord text k ks
 word_at text blank b more n k ks is_blank whole begins count h =
     let cut : b ∷ more ≡ b ∷ (take n more ++ drop n more) = ap (λ t. b ∷ t) (sym (take-append-drop n more)) in
-    let first : kinds_of (tokens_of (b ∷ more)) ≡ kind_of (b ∷ take n more) ∷ kinds_of (tokens_of (drop n more)) =
-    ap kinds_of (token b more begins)
-    ∙ ap (λ i. kind_of (take i (b ∷ more)) ∷ kinds_of (tokens_of (drop i (b ∷ more)))) count in
-    let all : kind_of (b ∷ take n more) ∷ kinds_of (tokens_of (drop n more)) ≡ k ∷ ks =
-    sym first ∙ (ap kinds_of (sym (blank_tokens blank (b ∷ more) is_blank)) ∙ (ap (λ t. kinds_of (tokens_of t)) (sym whole) ∙ h)) in
+    let first :
+    tokens_of text
+    ≡ record { kind = kind_of (b ∷ take n more); left = length (b ∷ (take n more ++ drop n more)) }
+    ∷ tokens_of (drop n more) =
+    ap tokens_of whole
+    ∙ (blank_tokens blank (b ∷ more) is_blank
+    ∙ (token b more begins
+    ∙ (ap (λ i. record { kind = kind_of (take i (b ∷ more)); left = length (b ∷ more) } ∷ tokens_of (drop i (b ∷ more))) count
+    ∙ ap (λ t. record { kind = kind_of (b ∷ take n more); left = length t } ∷ tokens_of (drop n more)) cut))) in
+    let all : kind_of (b ∷ take n more) ∷ kinds_of (tokens_of (drop n more)) ≡ k ∷ ks = sym (ap kinds_of first) ∙ h in
     let D : ℕ → Type 0 = λ i. Delimited (drop i (b ∷ more)) in
     let kind : kind_of (b ∷ take n more) ≡ k = cc all in
     let others : kinds_of (tokens_of (drop n more)) ≡ ks = cc all in
@@ -175,6 +182,7 @@ word_at text blank b more n k ks is_blank whole begins count h =
       ends = λ e. subst D count (token_ends b more e);
       kind = kind;
       others = others;
+      tokens = first;
       shorter = omega (arith, ap length whole, length-append blank (b ∷ more), length-drop n more);
     }
 

@@ -2,6 +2,7 @@ pub mod Answer
 pub mod Bytes
 pub mod Cuts
 pub mod WordKinds
+pub mod Fronts
 pub mod Pieces
 pub mod Stages
 pub mod Texts

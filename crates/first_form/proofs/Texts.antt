@@ -40,14 +40,14 @@ ended_text text h =
     subst P (sym s.whole) (ended s.blank s.rest s.is_blank (no_word text h s))
 
 -- a character begins with a mark
-abbrev BeginsMarked : List ℕ → Type 0
+abbrev pub BeginsMarked : List ℕ → Type 0
 BeginsMarked [] = ⊥
 BeginsMarked (b ∷ bytes) = b ≡ 35
 
 named_marked : (small word : List ℕ) → Marked small word → BeginsMarked word
 named_marked small word m = let P : List ℕ → Type 0 = λ w. BeginsMarked w in subst P (sym m.whole) refl
 
-begins_marked : (word : List ℕ) (c : ℕ) → IsCharacter word c → BeginsMarked word
+pub begins_marked : (word : List ℕ) (c : ℕ) → IsCharacter word c → BeginsMarked word
 begins_marked word c (itself b) = refl
 begins_marked word c (space w h) = named_marked (codes "pace") w (marked 115 (codes "pace") w h space_run)
 begins_marked word c (newline w h) = named_marked (codes "ewline") w (marked 110 (codes "ewline") w h newline_run)
@@ -60,6 +60,17 @@ apart rest blank b bytes d whole mark empty =
     let at : rest ≡ 35 ∷ bytes = whole ∙ (ap (λ e. e ++ (b ∷ bytes)) empty ∙ ap (λ x. x ∷ bytes) mark) in
     let no : false ≡ true = subst P at d in
     absurd (cc)
+
+-- the words of a form and the blanks before them make up its text
+joined :
+    (text opened named shown closed before inside name between character after : List ℕ)
+    → text ≡ before ++ (40 ∷ opened) → opened ≡ inside ++ (name ++ named) → named ≡ between ++ (character ++ shown)
+    → shown ≡ after ++ (41 ∷ closed)
+    → text ≡ before ++ (40 ∷ (inside ++ (name ++ (between ++ (character ++ (after ++ (41 ∷ closed)))))))
+joined text opened named shown closed before inside name between character after one two three four =
+    one
+    ∙ ap (λ t. before ++ (40 ∷ t))
+    (two ∙ ap (λ t. inside ++ (name ++ t)) (three ∙ ap (λ t. between ++ (character ++ t)) four))
 
 pub read_forms : (n : ℕ) (text chars : List ℕ) → length text ≤ n → Reads text chars → IsForms text chars
 read_forms n text [] few h = ended_text text h
@@ -79,14 +90,10 @@ read_forms (suc n) text (c ∷ cs) few h =
     let close_is : e.b ∷ (e.bytes ++ e.rest) ≡ 41 ∷ e.rest = ap (λ w. w ++ e.rest) (close_word (e.b ∷ e.bytes) e.kind) in
     let some : k.blank ≢ [] =
     apart m.rest k.blank k.b (k.bytes ++ k.rest) (m.ends run.0) k.whole (begins_marked word c is_character) in
-    let fourth : k.rest ≡ e.blank ++ (41 ∷ e.rest) = e.whole ∙ ap (λ t. e.blank ++ t) close_is in
-    let third : m.rest ≡ k.blank ++ (word ++ (e.blank ++ (41 ∷ e.rest))) =
-    k.whole ∙ ap (λ t. k.blank ++ (word ++ t)) fourth in
-    let second : o.rest ≡ m.blank ++ (name ++ (k.blank ++ (word ++ (e.blank ++ (41 ∷ e.rest))))) =
-    m.whole ∙ ap (λ t. m.blank ++ (name ++ t)) third in
     let whole :
     text ≡ o.blank ++ (40 ∷ (m.blank ++ (name ++ (k.blank ++ (word ++ (e.blank ++ (41 ∷ e.rest))))))) =
-    o.whole ∙ (ap (λ t. o.blank ++ t) open_is ∙ ap (λ t. o.blank ++ (40 ∷ t)) second) in
+    joined text o.rest m.rest k.rest e.rest o.blank m.blank name k.blank word e.blank
+    (o.whole ∙ ap (λ t. o.blank ++ t) open_is) m.whole k.whole (e.whole ∙ ap (λ t. e.blank ++ t) close_is) in
     let short : length e.rest ≤ n = omega (arith, o.shorter, m.shorter, k.shorter, e.shorter) in
     let P : List ℕ → Type 0 = λ t. IsForms t (c ∷ cs) in
     subst P (sym whole)

@@ -42,3 +42,9 @@ pub data IsForms : List ℕ → List ℕ → Type 0 where
       → IsForms
       (before ++ (byte "(" ∷ (inside ++ (name ++ (between ++ (character ++ (after ++ (byte ")" ∷ rest))))))))
       (c ∷ chars)
+
+-- some text of forms begins with these bytes
+pub record BeginsForms (front : List ℕ) : Type 0 where
+  pub more : List ℕ
+  pub chars : List ℕ
+  pub whole : IsForms (front ++ more) chars

@@ -4,8 +4,9 @@
 //! A text is cut into tokens by the longest match, as in R4RS 2.2 and 7.1.1: `specs/Tokens`. It is of
 //! this form where its tokens are those of such forms one after another, and what does not fit is the
 //! first token with which no text of this form goes on: `specs/Form`, which `read` meets both ways.
-//! `specs/Grammar` says by the bytes alone what a text of this form is, and `same_texts` is the law that
-//! both say the same; `one_answer` is the law that a text has one answer.
+//! `specs/Grammar` says by the bytes alone what a text of this form is. Three laws tie them: `same_texts`,
+//! that both say the same; `one_answer`, that a text has one answer; and `fits_up_to_place`, that the bytes
+//! before the place begin some text of this form.
 #![tactic(auto)]
 
 mod error;
@@ -19,4 +20,4 @@ mod token;
 
 pub use error::FirstErr;
 pub use form::read;
-pub use law::{one_answer, same_texts};
+pub use law::{fits_up_to_place, one_answer, same_texts};
