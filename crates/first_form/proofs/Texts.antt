@@ -2,7 +2,7 @@
 use Rattle.std.proofs.Common.{◌≡◌, ◌≢◌, ℕ, zero, suc, ◌≤◌, true, false, List, [], ◌∷◌, ◌++◌, length, refl, ap, sym, ◌∙◌, subst, arith}
 use Rattle.first_form.specs.declared.token.Kind.TheVariants.{Open, Close, WriteChar, Character}
 use Rattle.first_form.specs.Form.{kinds_of, written, Reads}
-use Rattle.first_form.specs.Grammar.{IsName, IsCharacter, IsForms}
+use Rattle.first_form.specs.Grammar.{IsBlank, IsName, IsCharacter, IsForms}
 use Rattle.first_form.specs.Grammar.IsForms.{ended, form}
 use Rattle.first_form.specs.Tokens.{tokens_of}
 use Rattle.first_form.proofs.Bytes.{Delimited, blank_tokens, last_tokens}
@@ -62,15 +62,26 @@ apart rest blank b bytes d whole mark empty =
     absurd (cc)
 
 -- the words of a form and the blanks before them make up its text
-joined :
-    (text opened named shown closed before inside name between character after : List ℕ)
+form_text :
+    (text opened named shown closed before inside name between character after cs : List ℕ) (c : ℕ)
     → text ≡ before ++ (40 ∷ opened) → opened ≡ inside ++ (name ++ named) → named ≡ between ++ (character ++ shown)
-    → shown ≡ after ++ (41 ∷ closed)
-    → text ≡ before ++ (40 ∷ (inside ++ (name ++ (between ++ (character ++ (after ++ (41 ∷ closed)))))))
-joined text opened named shown closed before inside name between character after one two three four =
+    → shown ≡ after ++ (41 ∷ closed) → IsBlank before → IsBlank inside → IsName (codes "write-char") name
+    → IsBlank between → between ≢ [] → IsCharacter character c → IsBlank after → IsForms closed cs
+    → IsForms text (c ∷ cs)
+form_text text opened named shown closed before inside name between character after cs c one two three four b i n w some ch a f =
+    let P : List ℕ → Type 0 = λ t. IsForms t (c ∷ cs) in
+    let whole :
+    text ≡ before ++ (40 ∷ (inside ++ (name ++ (between ++ (character ++ (after ++ (41 ∷ closed))))))) =
     one
     ∙ ap (λ t. before ++ (40 ∷ t))
-    (two ∙ ap (λ t. inside ++ (name ++ t)) (three ∙ ap (λ t. between ++ (character ++ t)) four))
+    (two ∙ ap (λ t. inside ++ (name ++ t)) (three ∙ ap (λ t. between ++ (character ++ t)) four)) in
+    subst P (sym whole) (form before inside name between character after closed cs c b i n w some ch a f)
+
+-- a word of one byte
+single :
+    (text blank : List ℕ) (b : ℕ) (bytes rest : List ℕ) (k : ℕ) → text ≡ blank ++ (b ∷ (bytes ++ rest))
+    → b ∷ bytes ≡ k ∷ [] → text ≡ blank ++ (k ∷ rest)
+single text blank b bytes rest k whole is = whole ∙ ap (λ w. blank ++ (w ++ rest)) is
 
 pub read_forms : (n : ℕ) (text chars : List ℕ) → length text ≤ n → Reads text chars → IsForms text chars
 read_forms n text [] few h = ended_text text h
@@ -86,19 +97,13 @@ read_forms (suc n) text (c ∷ cs) few h =
     let is_name : IsName (codes "write-char") name = name_word name m.kind in
     let is_character : IsCharacter word c = character_word word c k.kind in
     let run = lower_run name (codes "write-char") is_name name_run in
-    let open_is : o.b ∷ (o.bytes ++ o.rest) ≡ 40 ∷ o.rest = ap (λ w. w ++ o.rest) (open_word (o.b ∷ o.bytes) o.kind) in
-    let close_is : e.b ∷ (e.bytes ++ e.rest) ≡ 41 ∷ e.rest = ap (λ w. w ++ e.rest) (close_word (e.b ∷ e.bytes) e.kind) in
     let some : k.blank ≢ [] =
     apart m.rest k.blank k.b (k.bytes ++ k.rest) (m.ends run.0) k.whole (begins_marked word c is_character) in
-    let whole :
-    text ≡ o.blank ++ (40 ∷ (m.blank ++ (name ++ (k.blank ++ (word ++ (e.blank ++ (41 ∷ e.rest))))))) =
-    joined text o.rest m.rest k.rest e.rest o.blank m.blank name k.blank word e.blank
-    (o.whole ∙ ap (λ t. o.blank ++ t) open_is) m.whole k.whole (e.whole ∙ ap (λ t. e.blank ++ t) close_is) in
     let short : length e.rest ≤ n = omega (arith, o.shorter, m.shorter, k.shorter, e.shorter) in
-    let P : List ℕ → Type 0 = λ t. IsForms t (c ∷ cs) in
-    subst P (sym whole)
-    (form o.blank m.blank name k.blank word e.blank e.rest cs c o.is_blank m.is_blank is_name k.is_blank some
-    is_character e.is_blank (read_forms n e.rest cs short e.others))
+    form_text text o.rest m.rest k.rest e.rest o.blank m.blank name k.blank word e.blank cs c
+    (single text o.blank o.b o.bytes o.rest 40 o.whole (open_word (o.b ∷ o.bytes) o.kind)) m.whole k.whole
+    (single k.rest e.blank e.b e.bytes e.rest 41 e.whole (close_word (e.b ∷ e.bytes) e.kind)) o.is_blank
+    m.is_blank is_name k.is_blank some is_character e.is_blank (read_forms n e.rest cs short e.others)
 
 pub same_text : (text chars : List ℕ) → (Reads text chars → IsForms text chars) × (IsForms text chars → Reads text chars)
 same_text text chars = ((λ h. read_forms (length text) text chars (omega arith) h), forms_read text chars)
