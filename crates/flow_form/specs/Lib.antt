@@ -1,0 +1,5 @@
+pub mod Laws
+pub mod Least
+pub mod Race
+pub mod Shape
+pub mod Valid
