@@ -44,6 +44,13 @@ pub fn within(a: &[u64], b: &[u64]) -> bool
     true
 }
 
+/// Whether each bit that is set in `a` is set in `b`.
+pub fn is_part(a: u64, b: u64) -> bool
+    ensures { IsTrue result ↔ ((bit : ℕ) → bit < 64 → bit_at a bit ≡ 1 → bit_at b bit ≡ 1) }
+{
+    a & !b == 0
+}
+
 /// The least member of `row` that is not below `from`, of those that a `u32` numbers.
 pub fn next_member(row: &[u64], from: u32) -> Option<u32>
     ensures { MatchOption result ((atom : ℕ) → from ≤ atom → atom < 2 ^ 32 → ¬ IsMember row.now atom) (λ atom. IsNextMember row.now from atom) }
@@ -56,13 +63,6 @@ pub fn next_member(row: &[u64], from: u32) -> Option<u32>
         skipped = 0;
     }
     None
-}
-
-/// Whether each bit that is set in `a` is set in `b`.
-fn is_part(a: u64, b: u64) -> bool
-    ensures { IsTrue result ↔ ((bit : ℕ) → bit < 64 → bit_at a bit ≡ 1 → bit_at b bit ≡ 1) }
-{
-    a & !b == 0
 }
 
 /// The lowest bit that is set in `word` and not below `from`.

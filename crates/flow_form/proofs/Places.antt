@@ -1,8 +1,10 @@
 -- The bit of each place in the words is that of one pair, and so sets of pairs are sets of bits.
-use Rattle.std.proofs.Common.{ℕ, List, length, ◌≡◌, ◌+◌, ◌*◌, ◌/◌, ◌%◌, ◌<◌, inl, inr, sym, ap, arith, subst, get_or}
+use Rattle.std.proofs.Common.{ℕ, List, length, ◌≡◌, ◌+◌, ◌*◌, ◌/◌, ◌%◌, ◌<◌, inl, inr, sym, ap, arith, subst, get_or, ◌⊎◌, ◌↔◌}
 use Rattle.std.specs.Int.{bit_at}
 use Rattle.std.proofs.lemmas.Bool.{cases_lt}
 use Rattle.std.proofs.lemmas.Nat.{div-add-mod', div_below, mod_below}
+use Rattle.bit_rows.specs.Members.{IsMember, IsSubset}
+use Rattle.bit_rows.proofs.Members.{bit_of_member, member_of_bit, part_of_subset}
 use Rattle.flow_form.specs.declared.constraints.Constraints.{Constraints}
 use Rattle.flow_form.specs.Least.{Within}
 use Rattle.flow_form.specs.Shape.{stride_of, size_of, In}
@@ -56,3 +58,44 @@ bits_of_pairs c words more size within at bit below set =
           in
           subst To place (subst ToLow low (within (at / stride) (64 * (at % stride) + bit) h).bit)
     ]
+
+-- ---- words as sets of members
+pub pairs_of_members :
+    (c : Constraints) (words more : List ℕ) → IsSubset words more → Within (In c words) (In c more)
+pairs_of_members c words more h = pairs_of_bits c words more (part_of_subset words more h)
+
+pub members_of_pairs :
+    (c : Constraints) (words more : List ℕ) → length words ≡ size_of c → Within (In c words) (In c more)
+    → IsSubset words more
+members_of_pairs c words more size h atom member =
+    bits_of_pairs c words more size h (atom / 64) (atom % 64) (omega arith) member
+
+-- the pairs of a union of members
+pub pairs_of_union :
+    (c : Constraints) (one other both : List ℕ)
+    → ((atom : ℕ) → IsMember both atom ↔ (IsMember one atom ⊎ IsMember other atom))
+    → (row atom : ℕ) → In c both row atom ↔ (In c one row atom ⊎ In c other row atom)
+pairs_of_union c one other both union row atom =
+    let place : ℕ = row * stride_of c + atom / 64 in
+    let low : atom % 64 < 64 = omega arith in (
+      (λ h. elim ((union (64 * place + atom % 64)).0 (member_of_bit both place (atom % 64) low h.bit)) [
+        | inl x ↦
+            inl record { row_there = h.row_there; atom_there = h.atom_there; bit = bit_of_member one place (atom % 64) low x }
+        | inr y ↦
+            inr record { row_there = h.row_there; atom_there = h.atom_there; bit = bit_of_member other place (atom % 64) low y }
+      ]),
+      (λ h. elim h [
+        | inl x ↦ record {
+          row_there = x.row_there;
+          atom_there = x.atom_there;
+          bit = bit_of_member both place (atom % 64) low
+              ((union (64 * place + atom % 64)).1 (inl (member_of_bit one place (atom % 64) low x.bit)));
+        }
+        | inr y ↦ record {
+          row_there = y.row_there;
+          atom_there = y.atom_there;
+          bit = bit_of_member both place (atom % 64) low
+              ((union (64 * place + atom % 64)).1 (inr (member_of_bit other place (atom % 64) low y.bit)));
+        }
+      ]),
+    )
