@@ -1,6 +1,6 @@
 -- Each legal move keeps the words between the base and the least solution, and keeps what the workers
 -- have loaded, grown and done standing in the words.
-use Rattle.std.proofs.Common.{ℕ, List, [], ◌∷◌, Option, Some, None, length, slice_get, slice_index, ◌≡◌, ◌/◌, ◌%◌, ◌<◌, ◌⊎◌, inl, inr, refl, sym, subst, bit_or}
+use Rattle.std.proofs.Common.{ℕ, List, [], ◌∷◌, Option, Some, None, length, slice_get, slice_index, ◌≡◌, ◌/◌, ◌%◌, ◌<◌, inl, inr, refl, sym, subst, bit_or}
 use Rattle.std.specs.Int.{bit_at}
 use Rattle.bit_rows.proofs.Words.{bit_of_or}
 use Rattle.flow_form.specs.declared.constraints.Constraints.{Constraints}
@@ -8,7 +8,7 @@ use Rattle.flow_form.specs.declared.event.Event.{Event}
 use Rattle.flow_form.specs.declared.event.Event.TheVariants.{Load, Or, Claim, Done}
 use Rattle.flow_form.specs.declared.event.Worker.{Worker}
 use Rattle.flow_form.specs.Least.{Within, Given, GivenByBlock, LeastFrom}
-use Rattle.flow_form.specs.Race.{with_bits, MaskWithin, new_worker, loading, growing, finishing, joined, joining, changed, worker_at, State, start, Legal, after, Move, Acts, Splits, Joins, LegalMove, after_move, Runs, IsBetween, IsKept, IsSound}
+use Rattle.flow_form.specs.Race.{with_bits, MaskWithin, new_worker, loading, growing, finishing, joined, joining, changed, worker_at, State, start, Legal, after, Move, Acts, Splits, Joins, LegalMove, after_move, Runs, IsBetween, IsKept, IsSound, Seen}
 use Rattle.flow_form.specs.Shape.{size_of, done_size_of, In}
 use Rattle.flow_form.proofs.Least.{given_more, least_closed, least_has_base}
 use Rattle.flow_form.proofs.Words.{in_more, in_kept, in_new, in_zeros, in_either, member_either, member_more, no_bit_of_zeros}
@@ -92,7 +92,7 @@ kept_grow c base words i m worker there h =
 
 pub kept_finish :
     (c : Constraints) (base words : List ℕ) (block : ℕ) (worker : Worker)
-    → Within (GivenByBlock c.rules block (In c base)) (λ row atom. In c worker.loaded row atom ⊎ In c worker.grown row atom)
+    → Within (GivenByBlock c.rules block (In c base)) (Seen c worker)
     → IsKept c base words worker → IsKept c base words (finishing block worker)
 kept_finish c base words block worker seen h =
     record {
@@ -209,8 +209,7 @@ sound_event s (Done k block) h legal =
           (λ worker there.
           let same : legal.worker ≡ worker = cc (legal.worker_there, there) in
           let Seen : Worker → Type 0 =
-          λ w. Within (GivenByBlock s.constraints.rules block (In s.constraints s.base))
-          (λ row atom. In s.constraints w.loaded row atom ⊎ In s.constraints w.grown row atom) in
+          λ w. Within (GivenByBlock s.constraints.rules block (In s.constraints s.base)) (Seen s.constraints w) in
           kept_finish s.constraints s.base s.words block worker (subst Seen same legal.seen) (h.kept k worker there))
           h.kept;
     }

@@ -62,6 +62,10 @@ joined one other =
       done = or_words one.done other.done;
     }
 
+-- what a worker has loaded or grown
+abbrev pub Seen : Constraints → Worker → Pairs
+Seen c worker row atom = In c worker.loaded row atom ⊎ In c worker.grown row atom
+
 -- ---- states
 
 -- the workers are numbered from 0, and a worker that is gone leaves its number empty
@@ -109,9 +113,7 @@ pub record CanFinish (s : State) (number block : ℕ) : Type 0 where
   pub worker : Worker
   pub worker_there : IsWorker s number worker
   pub block_there : block < blocks_of s.constraints
-  pub seen :
-      Within (GivenByBlock s.constraints.rules block (In s.constraints s.base))
-      (λ row atom. In s.constraints worker.loaded row atom ⊎ In s.constraints worker.grown row atom)
+  pub seen : Within (GivenByBlock s.constraints.rules block (In s.constraints s.base)) (Seen s.constraints worker)
 
 abbrev pub Legal : State → Event → Type 0
 Legal s (Load worker word) = CanLoad s worker word

@@ -1,10 +1,9 @@
-ghost use Rattle.std.specs.Prelude.{◌≡◌, ◌+◌, ◌*◌, ◌<◌, ◌≤◌, ℕ, Bool, List, length};
+ghost use Rattle.std.specs.Prelude.{◌*◌, ◌≤◌, ℕ, Bool, List, length};
 ghost use Rattle.flow_form.specs.declared.constraints.Constraints.{Constraints};
 ghost use Rattle.flow_form.specs.declared.rule.Rule.{Rule};
-ghost use Rattle.flow_form.specs.Laws.{IsLeastSolution};
-ghost use Rattle.flow_form.specs.Least.{Closed, Plain, SameSet};
+ghost use Rattle.flow_form.specs.Laws.{IsLeastSolution, StepGrows};
 ghost use Rattle.flow_form.specs.Race.{IsSound, Move, Runs, State, start};
-ghost use Rattle.flow_form.specs.Shape.{In, pairs_in, size_of};
+ghost use Rattle.flow_form.specs.Shape.{pairs_in};
 
 /// The law of the least solution: it is closed, it is within each closed set that has the base, and
 /// the first plain step that adds nothing ends in it. A base within the least solution of nothing
@@ -23,6 +22,6 @@ pub fn any_schedule()
 /// The law of the chain: a plain step of a set that is not closed has added a pair, of which there
 /// are at most 64 a word.
 pub fn chain_is_bounded()
-    ensures grows { (c : Constraints) (words more : List ℕ) → length words ≡ size_of c → length more ≡ size_of c → SameSet (In c more) (Plain c.rules (In c words)) → ¬ Closed c.rules (In c words) → pairs_in words < pairs_in more }
+    ensures grows { (c : Constraints) (words more : List ℕ) → StepGrows c words more }
     ensures few { (words : List ℕ) → pairs_in words ≤ 64 * length words }
 {}

@@ -1,4 +1,9 @@
+ghost use Rattle.std.specs.Prelude.{◌≡◌, replicate, IfOk};
+ghost use Rattle.flow_form.specs.Shape.{HasShape, size_of};
+
+use crate::Constraints;
 use scheme_base::Numbers;
+use std::alloc::{AllocError, Global};
 
 /// A set of (row, atom) pairs, kept as bits.
 ///
@@ -8,4 +13,16 @@ pub struct Rows {
     /// The words of one row.
     pub stride: u32,
     pub words: Numbers,
+}
+
+/// Rows of the shape of the constraints that have no pair.
+pub fn no_pairs(alloc: Global, c: &Constraints) -> Result<Rows, AllocError>
+    ensures shape { IfOk result (HasShape c.now) }
+    ensures none { IfOk result (λ rows. rows.words ≡ replicate (size_of c.now) 0) }
+{
+    let words = vec![in alloc; 0; c.size() as usize]?;
+    Ok(Rows {
+        stride: c.stride(),
+        words: Numbers::from_vec(words),
+    })
 }

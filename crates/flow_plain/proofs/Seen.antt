@@ -5,9 +5,10 @@ use Rattle.std.proofs.lemmas.Bool.{cases_lt}
 use Rattle.std.proofs.lemmas.Nat.{div-add-mod', div_below, mod_below, same_from_place}
 use Rattle.bit_rows.proofs.Words.{bit_of_or}
 use Rattle.flow_form.specs.declared.constraints.Constraints.{Constraints}
+use Rattle.flow_form.specs.declared.event.Worker.{Worker}
 use Rattle.flow_form.specs.declared.rule.Rule.{Rule}
 use Rattle.flow_form.specs.Least.{Pairs, Within, Gives, Given, GivenByBlock, GivesAtom, TestHolds}
-use Rattle.flow_form.specs.Race.{MaskWithin}
+use Rattle.flow_form.specs.Race.{MaskWithin, Seen}
 use Rattle.flow_form.specs.Shape.{In, size_of, stride_of}
 use Rattle.flow_plain.specs.Rules.{GivesTo}
 use Rattle.flow_plain.proofs.Rules.{GivenBelow, below_more, gives_of_holds, listed_below}
@@ -84,19 +85,16 @@ gives_word c words rule row col mask holds to exact bit below = (
   (λ h. (exact bit below).1 h.gives),
 )
 
--- ---- what a rule gives, among two lists of words
-abbrev pub Seen : Constraints → (loaded grown : List ℕ) → Pairs
-Seen c loaded grown row atom = In c loaded row atom ⊎ In c grown row atom
-
+-- ---- what a rule gives, among what a worker has loaded or grown
 pub gift_more :
-    (c : Constraints) (base loaded grown : List ℕ) (rule : Rule) (stride at mask : ℕ) → stride ≡ stride_of c
+    (c : Constraints) (base : List ℕ) (worker : Worker) (rule : Rule) (stride at mask : ℕ) → stride ≡ stride_of c
     → rule.to < c.rows → at < stride_of c
     → ((bit : ℕ) → bit < 64 → (bit_at mask bit ≡ 1) ↔ GivesAtom (In c base) rule.give (64 * at + bit))
     → ((bit : ℕ) → bit < 64 → bit_at mask bit ≡ 1
-    → bit_at (bit_or (get_or loaded (rule.to * stride + at) 0) (get_or grown (rule.to * stride + at) 0)) bit ≡ 1)
-    → ((row atom : ℕ) → GivesTo c base rule row atom → atom / 64 < at → Seen c loaded grown row atom)
-    → (row atom : ℕ) → GivesTo c base rule row atom → atom / 64 < at + 1 → Seen c loaded grown row atom
-gift_more c base loaded grown rule stride at mask same to_there at_there exact part so_far row atom h near =
+    → bit_at (bit_or (get_or worker.loaded (rule.to * stride + at) 0) (get_or worker.grown (rule.to * stride + at) 0)) bit ≡ 1)
+    → ((row atom : ℕ) → GivesTo c base rule row atom → atom / 64 < at → Seen c worker row atom)
+    → (row atom : ℕ) → GivesTo c base rule row atom → atom / 64 < at + 1 → Seen c worker row atom
+gift_more c base worker rule stride at mask same to_there at_there exact part so_far row atom h near =
     elim (cases_lt (atom / 64) at) [
       | inl below ↦ so_far row atom h below
       | inr above ↦
@@ -107,9 +105,9 @@ gift_more c base loaded grown rule stride at mask same to_there at_there exact p
           let set = (exact (atom % 64) (omega arith)).1 (subst Gift whole h.given) in
           let place : rule.to * stride + at ≡ row * stride_of c + atom / 64 =
           ap (λ s. rule.to * s + at) same ∙ ap (λ r. r * stride_of c + at) (sym to) ∙ ap (λ n. row * stride_of c + n) (sym at_word) in
-          let Bit : ℕ → Type 0 = λ n. (bit_at (get_or loaded n 0) (atom % 64) ≡ 1) ⊎ (bit_at (get_or grown n 0) (atom % 64) ≡ 1) in
+          let Bit : ℕ → Type 0 = λ n. (bit_at (get_or worker.loaded n 0) (atom % 64) ≡ 1) ⊎ (bit_at (get_or worker.grown n 0) (atom % 64) ≡ 1) in
           let either =
-          (bit_of_or (get_or loaded (rule.to * stride + at) 0) (get_or grown (rule.to * stride + at) 0) (atom % 64)).0
+          (bit_of_or (get_or worker.loaded (rule.to * stride + at) 0) (get_or worker.grown (rule.to * stride + at) 0) (atom % 64)).0
           (part (atom % 64) (omega arith) set) in
           elim (subst Bit place either) [
             | inl x ↦ inl record { row_there = omega arith; atom_there = omega arith; bit = x }
@@ -118,19 +116,19 @@ gift_more c base loaded grown rule stride at mask same to_there at_there exact p
     ]
 
 pub part_of_gift :
-    (c : Constraints) (base loaded grown : List ℕ) (rule : Rule) (stride at mask : ℕ) → stride ≡ stride_of c
+    (c : Constraints) (base : List ℕ) (worker : Worker) (rule : Rule) (stride at mask : ℕ) → stride ≡ stride_of c
     → ((bit : ℕ) → bit < 64 → (bit_at mask bit ≡ 1) ↔ GivesAtom (In c base) rule.give (64 * at + bit))
-    → Within (GivesTo c base rule) (Seen c loaded grown)
+    → Within (GivesTo c base rule) (Seen c worker)
     → (bit : ℕ) → bit < 64 → bit_at mask bit ≡ 1
-    → bit_at (bit_or (get_or loaded (rule.to * stride + at) 0) (get_or grown (rule.to * stride + at) 0)) bit ≡ 1
-part_of_gift c base loaded grown rule stride at mask same exact seen bit below set =
+    → bit_at (bit_or (get_or worker.loaded (rule.to * stride + at) 0) (get_or worker.grown (rule.to * stride + at) 0)) bit ≡ 1
+part_of_gift c base worker rule stride at mask same exact seen bit below set =
     let low : (64 * at + bit) % 64 ≡ bit = omega arith in
     let high : (64 * at + bit) / 64 ≡ at = omega arith in
     let place : rule.to * stride_of c + (64 * at + bit) / 64 ≡ rule.to * stride + at =
     ap (λ n. rule.to * stride_of c + n) high ∙ ap (λ s. rule.to * s + at) (sym same) in
-    let Loaded : ℕ → ℕ → Type 0 = λ n b. bit_at (get_or loaded n 0) b ≡ 1 in
-    let Grown : ℕ → ℕ → Type 0 = λ n b. bit_at (get_or grown n 0) b ≡ 1 in
-    (bit_of_or (get_or loaded (rule.to * stride + at) 0) (get_or grown (rule.to * stride + at) 0) bit).1
+    let Loaded : ℕ → ℕ → Type 0 = λ n b. bit_at (get_or worker.loaded n 0) b ≡ 1 in
+    let Grown : ℕ → ℕ → Type 0 = λ n b. bit_at (get_or worker.grown n 0) b ≡ 1 in
+    (bit_of_or (get_or worker.loaded (rule.to * stride + at) 0) (get_or worker.grown (rule.to * stride + at) 0) bit).1
     (elim (seen rule.to (64 * at + bit) record { to = refl; given = (exact bit below).0 set }) [
       | inl x ↦
           let In_place : ℕ → Type 0 = λ n. Loaded n ((64 * at + bit) % 64) in

@@ -7,11 +7,10 @@ use Rattle.flow_form.specs.declared.event.Event.TheVariants.{Load, Or, Done}
 use Rattle.flow_form.specs.declared.event.Worker.{Worker}
 use Rattle.flow_form.specs.declared.rule.Rule.{Rule}
 use Rattle.flow_form.specs.Least.{GivenByBlock, Within}
-use Rattle.flow_form.specs.Race.{CanClaim, CanFinish, CanLoad, CanOr, IsWorker, State, after, changed, finishing, growing, loading, new_worker, start, with_bits}
+use Rattle.flow_form.specs.Race.{Seen, CanClaim, CanFinish, CanLoad, CanOr, IsWorker, State, after, changed, finishing, growing, loading, new_worker, start, with_bits}
 use Rattle.flow_form.specs.Shape.{In, blocks_of, done_size_of, size_of}
 use Rattle.flow_form.specs.Valid.{IsValid, IsValid-prop}
 use Rattle.flow_plain.specs.Machine.{IsSized, IsSizedWorker, state_of}
-use Rattle.flow_plain.proofs.Seen.{Seen}
 
 -- ---- workers
 worker_in :
@@ -252,7 +251,7 @@ seat_found seats found k seat same below read =
 pub can_finish :
     (s : State) (c : Constraints) (base words : List ℕ) (claims : ℕ) (seats : List Worker) (k block : ℕ) (seat : Worker)
     → state_of c base words claims seats ≡ s → slice_get seats k ≡ Some seat → block < blocks_of c
-    → Within (GivenByBlock c.rules block (In c base)) (Seen c seat.loaded seat.grown) ↔ CanFinish s k block
+    → Within (GivenByBlock c.rules block (In c base)) (Seen c seat) ↔ CanFinish s k block
 can_finish s c base words claims seats k block seat same there below =
     let Can : State → Type 0 = λ t. CanFinish t k block in (
       (λ seen.
@@ -263,7 +262,7 @@ can_finish s c base words claims seats k block seat same there below =
           let own : CanFinish (state_of c base words claims seats) k block = subst Can (sym same) can in
           let at : slice_get seats k ≡ Some own.worker = worker_out seats k own.worker own.worker_there in
           let one : own.worker ≡ seat = cc (at, there) in
-          let SeenBy : Worker → Type 0 = λ w. Within (GivenByBlock c.rules block (In c base)) (Seen c w.loaded w.grown) in
+          let SeenBy : Worker → Type 0 = λ w. Within (GivenByBlock c.rules block (In c base)) (Seen c w) in
           subst SeenBy one own.seen),
     )
 

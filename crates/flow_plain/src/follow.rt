@@ -1,7 +1,7 @@
-ghost use Rattle.std.specs.Prelude.{◌≡◌, ◌⊎◌, ℕ, ◌+◌, ◌*◌, ◌/◌, ◌%◌, ◌<◌, ◌↔◌, length, IsTrue};
+ghost use Rattle.std.specs.Prelude.{◌≡◌, ℕ, ◌+◌, ◌*◌, ◌/◌, ◌%◌, ◌<◌, ◌↔◌, length, IsTrue};
 ghost use Rattle.std.specs.Int.{bit_at};
 ghost use Rattle.flow_form.specs.Least.{Given, GivenByBlock, Gives, Within};
-ghost use Rattle.flow_form.specs.Race.{MaskWithin};
+ghost use Rattle.flow_form.specs.Race.{MaskWithin, Seen};
 ghost use Rattle.flow_form.specs.Shape.{In, size_of, stride_of};
 ghost use Rattle.flow_form.specs.Valid.{RuleNames};
 ghost use Rattle.flow_plain.specs.Rules.{GivesTo};
@@ -54,7 +54,7 @@ pub(crate) fn block_seen(c: &Constraints, base: &[u64], seat: &Seat, block: u32)
     requires size { length base.now ≡ size_of c.now }
     requires loaded { length seat.now.loaded ≡ size_of c.now }
     requires grown { length seat.now.grown ≡ size_of c.now }
-    ensures { IsTrue result ↔ Within (GivenByBlock c.now.rules block (In c.now base.now)) (λ row atom. In c.now seat.now.loaded row atom ⊎ In c.now seat.now.grown row atom) }
+    ensures { IsTrue result ↔ Within (GivenByBlock c.now.rules block (In c.now base.now)) (Seen c.now seat.now) }
 {
     let rules = c.rules.as_slice();
     let first = block as usize * BLOCK;
@@ -72,7 +72,7 @@ fn rule_seen(c: &Constraints, base: &[u64], seat: &Seat, rule: &Rule) -> bool
     requires loaded { length seat.now.loaded ≡ size_of c.now }
     requires grown { length seat.now.grown ≡ size_of c.now }
     requires named { RuleNames c.now.rows c.now.atoms rule.now }
-    ensures { IsTrue result ↔ Within (Gives (In c.now base.now) rule.now) (λ row atom. In c.now seat.now.loaded row atom ⊎ In c.now seat.now.grown row atom) }
+    ensures { IsTrue result ↔ Within (Gives (In c.now base.now) rule.now) (Seen c.now seat.now) }
 {
     !rule_holds(c, base, rule) || gift_seen(c, base, seat, rule)
 }
@@ -83,7 +83,7 @@ fn gift_seen(c: &Constraints, base: &[u64], seat: &Seat, rule: &Rule) -> bool
     requires loaded { length seat.now.loaded ≡ size_of c.now }
     requires grown { length seat.now.grown ≡ size_of c.now }
     requires named { RuleNames c.now.rows c.now.atoms rule.now }
-    ensures { IsTrue result ↔ Within (GivesTo c.now base.now rule.now) (λ row atom. In c.now seat.now.loaded row atom ⊎ In c.now seat.now.grown row atom) }
+    ensures { IsTrue result ↔ Within (GivesTo c.now base.now rule.now) (Seen c.now seat.now) }
 {
     let stride = c.stride();
     for at in 0..stride {

@@ -11,6 +11,8 @@ mod race;
 mod rule;
 mod seat;
 mod solve;
+#[cfg(test)]
+mod tests;
 
 pub use race::{IllegalEvent, MOST_WORKERS, Race};
 pub use solve::{chain, solve_plain};

@@ -2,9 +2,10 @@ use Rattle.std.proofs.Common.{◌≡◌, ◌+◌, ◌*◌, ◌≤◌, ◌⊎◌,
 use Rattle.std.proofs.lemmas.Bool.{cases_lt}
 use Rattle.flow_form.specs.declared.rule.Rule.{Rule}
 use Rattle.flow_form.specs.Least.{Gives, Within}
+use Rattle.flow_form.specs.Race.{Seen}
 use Rattle.flow_form.specs.Shape.{In}
 use Rattle.flow_plain.proofs.Rules.{listed_in, rule_at, rule_here}
-use Rattle.flow_plain.proofs.Seen.{Seen, block_all, rule_of_block}
+use Rattle.flow_plain.proofs.Seen.{block_all, rule_of_block}
 use Rattle.flow_plain.proofs.follow.block_seen.Goals as goal
 
 pub returns-then-not-rule_seen : goal.returns-then-not-rule_seen
@@ -13,7 +14,7 @@ returns-then-not-rule_seen c = (
   (λ all.
       sym c.if-not-rule_seen.true
       ∙ c.rule_seen.ensures.1
-      (rule_of_block c.args.c.now c.args.base.now (Seen c.args.c.now c.args.seat.now.loaded c.args.seat.now.grown) c.args.block c.loop-index.index
+      (rule_of_block c.args.c.now c.args.base.now (Seen c.args.c.now c.args.seat.now) c.args.block c.loop-index.index
       (rule_here c.as_slice-rules.result.now c.loop-index.index) (omega arith) (omega arith)
       (listed_in c.args.c.now.rules c.as_slice-rules.result.now c.loop-index.index c.as_slice-rules.ensures (omega arith)) all)),
 )
@@ -28,7 +29,7 @@ loop-index-preserved c = λ index rule from near listed.
           let same : rule_here c.as_slice-rules.result.now c.loop-index.index ≡ rule =
           rule_at c.args.c.now.rules c.loop-index.index index (rule_here c.as_slice-rules.result.now c.loop-index.index) rule at here listed in
           let All : Rule → Type 0 =
-          λ r. Within (Gives (In c.args.c.now c.args.base.now) r) (Seen c.args.c.now c.args.seat.now.loaded c.args.seat.now.grown) in
+          λ r. Within (Gives (In c.args.c.now c.args.base.now) r) (Seen c.args.c.now c.args.seat.now) in
           subst All same (c.rule_seen.ensures.0 c.if-not-rule_seen.false)
     ]
 
@@ -40,7 +41,7 @@ returns c =
       | inr long ↦ inr (omega (arith, ap length c.as_slice-rules.ensures))
     ] in (
       (λ h.
-          block_all c.args.c.now c.args.base.now (Seen c.args.c.now c.args.seat.now.loaded c.args.seat.now.grown) c.args.block c.loop-index.index
+          block_all c.args.c.now c.args.base.now (Seen c.args.c.now c.args.seat.now) c.args.block c.loop-index.index
           all c.loop-index.invariant),
       (λ h. refl),
     )

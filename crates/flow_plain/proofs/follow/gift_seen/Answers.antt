@@ -16,7 +16,7 @@ returns-then-not-is_part c =
           (λ bit below set.
           let Bit : ℕ → Type 0 = λ n. bit_at n bit ≡ 1 in
           subst Bit word
-          (part_of_gift c.args.c.now c.args.base.now c.args.seat.now.loaded c.args.seat.now.grown c.args.rule.now
+          (part_of_gift c.args.c.now c.args.base.now c.args.seat.now c.args.rule.now
           c.stride-stride.result c.loop-at.at c.given_word.result c.stride-stride.ensures.value c.given_word.ensures seen bit below set))),
     )
 
@@ -26,7 +26,7 @@ loop-at-preserved c =
     let word : bit_or (get_or c.loaded.result.now place 0) (get_or c.grown.result.now place 0)
     ≡ bit_or (get_or c.args.seat.now.loaded place 0) (get_or c.args.seat.now.grown place 0) =
     cc (c.loaded.ensures, c.grown.ensures) in
-    gift_more c.args.c.now c.args.base.now c.args.seat.now.loaded c.args.seat.now.grown c.args.rule.now
+    gift_more c.args.c.now c.args.base.now c.args.seat.now c.args.rule.now
     c.stride-stride.result c.loop-at.at c.given_word.result c.stride-stride.ensures.value c.requires.named.to (omega arith)
     c.given_word.ensures
     (λ bit below set.

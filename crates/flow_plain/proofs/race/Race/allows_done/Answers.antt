@@ -1,7 +1,7 @@
 use Rattle.std.proofs.Common.{◌≤◌, ◌≡◌, ◌↔◌, List, ℕ, Some, IsTrue, length, slice_get, subst, arith, ap}
 use Rattle.flow_form.specs.Least.{GivenByBlock, Within}
+use Rattle.flow_form.specs.Race.{Seen}
 use Rattle.flow_form.specs.Shape.{In}
-use Rattle.flow_plain.proofs.Seen.{Seen}
 use Rattle.flow_plain.proofs.States.{can_finish, no_finish, seat_found}
 use Rattle.flow_plain.proofs.race.Race.allows_done.Goals as goal
 
@@ -35,6 +35,6 @@ returns-then-block-blocks c =
     let Tells : List ℕ → Type 0 =
     λ base. IsTrue c.block_seen.result
     ↔ Within (GivenByBlock c.self.inside.constraints.rules c.args.block (In c.self.inside.constraints base))
-    (Seen c.self.inside.constraints c.in-Some.seat.now.loaded c.in-Some.seat.now.grown) in
+    (Seen c.self.inside.constraints c.in-Some.seat.now) in
     let tells = subst Tells c.as_slice.ensures.value c.block_seen.ensures in
     ((λ t. can.0 (tells.0 t)), (λ h. tells.1 (can.1 h)))
