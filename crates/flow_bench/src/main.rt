@@ -11,12 +11,12 @@ use std::io;
 fn main(rt: HostRuntime) -> io::Result<()> {
     for (rows, atoms) in [(5_000, 1), (2_000, 500)] {
         let Some(c) = chain_of_rows(rt.alloc(), rows, atoms)? else {
-            println!(rt; "{rows} rows, {atoms} atoms: too many")?;
+            println!(rt; "rows {rows}, atoms {atoms}: too many")?;
             continue;
         };
         let solution = solve_plain(rt.alloc(), &c)?;
         let pairs = count_ones(solution.words.as_slice());
-        println!(rt; "{rows} rows, {atoms} atoms: {pairs} pairs")?;
+        println!(rt; "rows {rows}, atoms {atoms}: {pairs} pairs")?;
     }
     Ok(())
 }
