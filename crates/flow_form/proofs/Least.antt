@@ -7,7 +7,7 @@ use Rattle.flow_form.specs.declared.rule.Give.TheVariants.{Atom, Row}
 use Rattle.flow_form.specs.declared.rule.Rule.{Rule}
 use Rattle.flow_form.specs.declared.rule.Test.{Test}
 use Rattle.flow_form.specs.declared.rule.Test.TheVariants.{Has, Other}
-use Rattle.flow_form.specs.Least.{Pairs, Within, SameSet, TestHolds, GivesAtom, Gives, Given, GivenByBlock, Closed, Stage, LeastFrom}
+use Rattle.flow_form.specs.Least.{Pairs, Within, SameSet, TestHolds, GivesAtom, Gives, Given, Closed, Stage, LeastFrom}
 use Rattle.flow_form.specs.Valid.{GiveNames}
 
 -- ---- a larger set gives more
@@ -37,10 +37,6 @@ given_more rules S T more row atom h =
       listed = h.listed;
       gives = gives_more S T h.rule row atom more h.gives;
     }
-
--- what a block gives, its rules give
-pub given_of_block : (rules : List Rule) (block : ℕ) (S : Pairs) → Within (GivenByBlock rules block S) (Given rules S)
-given_of_block rules block S row atom h = h.given
 
 -- ---- stages
 pub stage_le :

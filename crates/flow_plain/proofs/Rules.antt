@@ -5,13 +5,11 @@ use Rattle.std.proofs.lemmas.Bool.{cases_eq, cases_lt}
 use Rattle.std.proofs.lemmas.Nat.{mul-add-lt, one_shl, same_from_place}
 use Rattle.std.proofs.lemmas.Nat.Bits.{bit_at-pow_same, bit_at-pow_other}
 use Rattle.flow_form.specs.declared.constraints.Constraints.{Constraints}
-use Rattle.flow_form.specs.declared.rule.Give.{Give}
-use Rattle.flow_form.specs.declared.rule.Give.TheVariants.{Atom, Row}
+use Rattle.flow_form.specs.declared.rule.Give.TheVariants.{Atom}
 use Rattle.flow_form.specs.declared.rule.Rule.{Rule}
 use Rattle.flow_form.specs.Least.{GivesAtom, Gives, Given, TestHolds}
 use Rattle.flow_form.specs.Race.{with_bits}
 use Rattle.flow_form.specs.Shape.{In, size_of, stride_of}
-use Rattle.flow_form.specs.Valid.{GiveNames}
 use Rattle.flow_form.proofs.Words.{in_more, in_kept, in_new}
 use Rattle.flow_plain.specs.Rules.{GivesTo}
 
@@ -35,13 +33,6 @@ mask_of_atom atom at bit word below =
             (λ h. absurd (apart (omega arith))),
           )
     ]
-
--- what is given lies in the words of a row
-pub given_there :
-    (c : Constraints) (words : List ℕ) (give : Give) (atom : ℕ) → GiveNames c.rows c.atoms give
-    → GivesAtom (In c words) give atom → atom < 64 * stride_of c
-given_there c words (Atom given) atom names h = let e : atom ≡ given = h in omega arith
-given_there c words (Row row) atom names h = h.atom_there
 
 -- one word more of what a rule gives
 pub give_more :
@@ -147,9 +138,6 @@ rule_at rules i j one other same at_i at_j =
 pub record GivenBelow (c : Constraints) (words : List ℕ) (place row atom : ℕ) : Type 0 where
   pub given : Given c.rules (In c words) row atom
   pub below : given.index < place
-
-pub none_below : (c : Constraints) (words : List ℕ) (row atom : ℕ) → GivenBelow c words 0 row atom → ⊥
-none_below c words row atom h = let below : h.given.index < 0 = h.below in omega arith
 
 -- one rule more
 pub below_more :

@@ -7,11 +7,11 @@ use Rattle.bit_rows.proofs.Words.{bit_of_or}
 use Rattle.flow_form.specs.declared.constraints.Constraints.{Constraints}
 use Rattle.flow_form.specs.declared.event.Worker.{Worker}
 use Rattle.flow_form.specs.declared.rule.Rule.{Rule}
-use Rattle.flow_form.specs.Least.{Pairs, Within, Gives, Given, GivenByBlock, GivesAtom, TestHolds}
+use Rattle.flow_form.specs.Least.{Pairs, Within, Gives, Given, GivenByBlock, GivesAtom}
 use Rattle.flow_form.specs.Race.{MaskWithin, Seen}
 use Rattle.flow_form.specs.Shape.{In, size_of, stride_of}
 use Rattle.flow_plain.specs.Rules.{GivesTo}
-use Rattle.flow_plain.proofs.Rules.{GivenBelow, below_more, gives_of_holds, listed_below}
+use Rattle.flow_plain.proofs.Rules.{GivenBelow, below_more, listed_below}
 
 -- ---- a mask for a word
 pub stride_some : (c : Constraints) → 0 < stride_of c
@@ -74,17 +74,6 @@ bits_all c words place row atom end = (
       record { given = h; below = omega arith }),
 )
 
--- ---- what one rule gives to a word
-pub gives_word :
-    (c : Constraints) (words : List ℕ) (rule : Rule) (row col mask : ℕ)
-    → (TestHolds (In c words) rule.first × TestHolds (In c words) rule.second) → rule.to ≡ row
-    → ((bit : ℕ) → bit < 64 → (bit_at mask bit ≡ 1) ↔ GivesAtom (In c words) rule.give (64 * col + bit))
-    → (bit : ℕ) → bit < 64 → (bit_at mask bit ≡ 1) ↔ Gives (In c words) rule row (64 * col + bit)
-gives_word c words rule row col mask holds to exact bit below = (
-  (λ h. record { first = holds.0; second = holds.1; to = sym to; gives = (exact bit below).0 h }),
-  (λ h. (exact bit below).1 h.gives),
-)
-
 -- ---- what a rule gives, among what a worker has loaded or grown
 pub gift_more :
     (c : Constraints) (base : List ℕ) (worker : Worker) (rule : Rule) (stride at mask : ℕ) → stride ≡ stride_of c
@@ -139,18 +128,6 @@ part_of_gift c base worker rule stride at mask same exact seen bit below set =
           let In_bit : ℕ → Type 0 = λ b. Grown (rule.to * stride + at) b in
           inr (subst In_bit low (subst In_place place y.bit))
     ])
-
--- where its tests hold, a rule gives what it gives to its row
-pub gives_seen :
-    (c : Constraints) (base : List ℕ) (rule : Rule) (T : Pairs)
-    → Within (GivesTo c base rule) T → Within (Gives (In c base) rule) T
-gives_seen c base rule T h row atom gives = h row atom record { to = gives.to; given = gives.gives }
-
-pub gift_seen_of :
-    (c : Constraints) (base : List ℕ) (rule : Rule) (T : Pairs)
-    → (TestHolds (In c base) rule.first × TestHolds (In c base) rule.second)
-    → Within (Gives (In c base) rule) T → Within (GivesTo c base rule) T
-gift_seen_of c base rule T holds h row atom gift = h row atom (gives_of_holds c base rule row atom holds gift)
 
 -- ---- what the rules of a block give
 pub block_all :
