@@ -1,0 +1,60 @@
+-- Data, and which datum a tree of the grammar is.
+--
+-- A mark before a datum is the list of its name and the datum (R4RS 4.1.2 and 4.2.6). A tail that is
+-- itself a list is joined to the items before it, as (a . (b c)) and (a b c) are one datum (R4RS 6.3).
+use Rattle.std.specs.Prelude.{ℕ, List, [], ◌∷◌, codes}
+use Rattle.scheme_base.specs.declared.pos.Pos.{Pos}
+use Rattle.datum_form.specs.Syntax.{Atom, Mark, Syntax, Rest, Elements}
+use Rattle.datum_form.specs.Syntax.Atom.{Name}
+use Rattle.datum_form.specs.Syntax.Mark.{Quote, Quasiquote, Unquote, Splice}
+use Rattle.datum_form.specs.Syntax.Syntax.{Leaf, Marked, Empty, Listed, Vector}
+use Rattle.datum_form.specs.Syntax.Rest.{End, More, Tail}
+use Rattle.datum_form.specs.Syntax.Elements.{Last, Further}
+
+mutual
+  -- a datum, with the place of its first byte
+  pub data Datum : Type 0 where
+    Single : Pos → Atom → Datum
+    Chain : Pos → Items → Datum
+    -- a list with a tail
+    Dotted : Pos → Items → Datum → Datum
+    Row : Pos → Items → Datum
+
+  pub data Items : Type 0 where
+    none : Items
+    item : Datum → Items → Items
+
+abbrev pub mark_name : Mark → List ℕ
+mark_name Quote = codes "quote"
+mark_name Quasiquote = codes "quasiquote"
+mark_name Unquote = codes "unquote"
+mark_name Splice = codes "unquote-splicing"
+
+-- the list at a place that has a first item before another datum
+abbrev pub pair : Pos → Datum → Datum → Datum
+pair p d (Single q a) = Dotted p (item d none) (Single q a)
+pair p d (Chain q is) = Chain p (item d is)
+pair p d (Dotted q is t) = Dotted p (item d is) t
+pair p d (Row q is) = Dotted p (item d none) (Row q is)
+
+abbrev mutual
+  pub datum_of : Syntax → Datum
+  datum_of (Leaf p a) = Single p a
+  datum_of (Marked p m s) = Chain p (item (Single p (Name (mark_name m))) (item (datum_of s) none))
+  datum_of (Empty p q) = Chain p none
+  datum_of (Listed p s r q) = pair p (datum_of s) (datum_of_rest p r)
+  datum_of (Vector p e q) = Row p (items_of e)
+
+  -- the rest of the list at this place, as a datum
+  pub datum_of_rest : Pos → Rest → Datum
+  datum_of_rest p End = Chain p none
+  datum_of_rest p (More s r) = pair p (datum_of s) (datum_of_rest p r)
+  datum_of_rest p (Tail d s) = datum_of s
+
+  pub items_of : Elements → Items
+  items_of Last = none
+  items_of (Further s e) = item (datum_of s) (items_of e)
+
+abbrev pub data_of : List Syntax → Items
+data_of [] = none
+data_of (s ∷ ss) = item (datum_of s) (data_of ss)

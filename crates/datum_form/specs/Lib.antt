@@ -1,0 +1,4 @@
+pub mod Data
+pub mod Faults
+pub mod Stands
+pub mod Syntax
