@@ -1,0 +1,5 @@
+pub mod Ends
+pub mod Good
+pub mod Lifts
+pub mod OneReading
+pub mod WholeTrees
