@@ -2,3 +2,5 @@ pub mod Data
 pub mod Faults
 pub mod Stands
 pub mod Syntax
+pub mod Text
+pub mod Words

@@ -279,7 +279,7 @@ opener_innermost (Single p a) n m fs tops ts stays goes = absurd stays
 front_goes : (n : ℕ) (front : List Token) → Begins n front → Going (run (start n) front)
 front_goes n front b = going (run (start n) front) (begins_on n front b)
 
-fault_shown : (n : ℕ) (ts : List Token) (d : Fault) → HasFault n ts d → Shows (run (start n) ts) d
+pub fault_shown : (n : ℕ) (ts : List Token) (d : Fault) → HasFault n ts d → Shows (run (start n) ts) d
 fault_shown n ts (IsStray p) h =
     let g = front_goes n h.front h.begins in
     let P : Run → Type 0 = λ r. Shows r (IsStray p) in

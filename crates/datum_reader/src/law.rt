@@ -1,6 +1,9 @@
 ghost use Rattle.std.specs.Prelude.{◌≡◌, ℕ, List, ◌⊎◌};
 ghost use Rattle.datum_form.specs.Syntax.{Token, Syntax, IsText};
 ghost use Rattle.datum_form.specs.Faults.{Fault, HasFault};
+ghost use Rattle.datum_form.specs.Data.{Items};
+ghost use Rattle.datum_reader.specs.declared.error.ReadErr.{ReadErr};
+ghost use Rattle.datum_reader.specs.Answer.{Reads, ReadFault};
 
 /// The law that a list of tokens is a text of one list of trees, or else has one fault at one place,
 /// whatever depth of nesting is allowed.
@@ -9,4 +12,12 @@ pub fn one_reading()
     ensures fault { (n : ℕ) (ts : List Token) (d e : Fault) → HasFault n ts d → HasFault n ts e → d ≡ e }
     ensures apart { (n : ℕ) (ts : List Token) (ss : List Syntax) (d : Fault) → IsText n ts ss → HasFault n ts d → ⊥ }
     ensures some { (n : ℕ) (ts : List Token) → ((ss : List Syntax) × IsText n ts ss) ⊎ ((d : Fault) × HasFault n ts d) }
+{}
+
+/// The law that a text reads as one list of data, or else has one fault at one place.
+pub fn one_answer()
+    ensures same_data { (text : List ℕ) (d e : Items) → Reads text d → Reads text e → d ≡ e }
+    ensures same_fault { (text : List ℕ) (d e : ReadErr) → ReadFault text d → ReadFault text e → d ≡ e }
+    ensures apart { (text : List ℕ) (d : Items) (e : ReadErr) → Reads text d → ReadFault text e → ⊥ }
+    ensures some { (text : List ℕ) → ((d : Items) × Reads text d) ⊎ ((e : ReadErr) × ReadFault text e) }
 {}

@@ -1,0 +1,54 @@
+-- The data of a text, or its one fault.
+--
+-- A text has at most 2^20 bytes, and its data are nested at most 1,000 deep. Its fault is at the first token
+-- after which no such text goes on, or at what is still open at its end.
+use Rattle.std.specs.Prelude.{◌≡◌, ℕ, ◌<◌, ◌≤◌, List, [], length, ◌⊎◌}
+use Rattle.scheme_base.specs.declared.pos.Pos.{Pos}
+use Rattle.datum_form.specs.Syntax.{Token, Syntax, IsText, Begins}
+use Rattle.datum_form.specs.Data.{Items, data_of}
+use Rattle.datum_form.specs.Faults.{Strays, Deepens, Unclosed as UnclosedTokens}
+use Rattle.datum_form.specs.Text.{Ending, Lexed, lexed}
+use Rattle.datum_form.specs.Text.Ending.{Clean, BadAt, RangeAt, OpenAt}
+use Rattle.datum_reader.specs.declared.error.ReadErr.{ReadErr}
+use Rattle.datum_reader.specs.declared.error.ReadErr.TheVariants.{Unclosed, Stray, BadToken, NumberRange, TooDeep, TooLong, NoMemory}
+
+-- the most bytes of a text
+abbrev pub max_length : ℕ
+max_length = 1048576
+
+-- the deepest nesting of its lists, vectors and marks
+abbrev pub max_depth : ℕ
+max_depth = 1000
+
+-- a text reads as these data
+pub record Reads (text : List ℕ) (data_read : Items) : Type 0 where
+  pub short : length text ≤ max_length
+  pub clean : (lexed text).ending ≡ Clean
+  pub trees : List Syntax
+  pub is_text : IsText max_depth (lexed text).tokens trees
+  pub read : data_read ≡ data_of trees
+
+-- the tokens of a text begin a text, and then comes what is no token
+pub record Breaks (lex : Lexed) (ending : Ending) : Type 0 where
+  pub begins : Begins max_depth lex.tokens
+  pub is : lex.ending ≡ ending
+
+-- the tokens of a text go to its end, and something is still open there
+pub record EndsInside (lex : Lexed) (p : Pos) : Type 0 where
+  pub clean : lex.ending ≡ Clean
+  pub unclosed : UnclosedTokens max_depth lex.tokens p
+
+-- a text that is not too long has this fault
+abbrev pub Fault : Lexed → ReadErr → Type 0
+Fault lex (Stray p) = Strays max_depth lex.tokens p
+Fault lex (TooDeep p) = Deepens max_depth lex.tokens p
+Fault lex (BadToken p) = Breaks lex (BadAt p)
+Fault lex (NumberRange p) = Breaks lex (RangeAt p)
+Fault lex (Unclosed p) = EndsInside lex p ⊎ Breaks lex (OpenAt p)
+Fault lex (TooLong n) = ⊥
+Fault lex NoMemory = ⊥
+
+-- a text has this fault; its length is looked at first
+abbrev pub ReadFault : List ℕ → ReadErr → Type 0
+ReadFault text (TooLong n) = (max_length < length text) × (n ≡ length text)
+ReadFault text e = (length text ≤ max_length) × Fault (lexed text) e
