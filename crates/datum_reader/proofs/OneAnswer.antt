@@ -5,18 +5,18 @@ use Rattle.std.specs.Prelude.{nat_lt}
 use Rattle.scheme_base.specs.declared.pos.Pos.{Pos}
 use Rattle.datum_form.specs.Syntax.{Token, Syntax, IsText, Begins}
 use Rattle.datum_form.specs.Data.{Items, data_of}
-use Rattle.datum_form.specs.Faults.{Strays, Deepens, Unclosed as UnclosedTokens, Fault as TokenFault, HasFault}
+use Rattle.datum_form.specs.Faults.{Fault as TokenFault, HasFault}
 use Rattle.datum_form.specs.Faults.Fault.{IsStray, IsDeep, IsUnclosed}
 use Rattle.datum_form.specs.Text.{Ending, Lexed, lexed}
 use Rattle.datum_form.specs.Text.Ending.{Clean, BadAt, RangeAt, OpenAt}
 use Rattle.datum_reader.specs.declared.error.ReadErr.{ReadErr}
 use Rattle.datum_reader.specs.declared.error.ReadErr.TheVariants.{Unclosed, Stray, BadToken, NumberRange, TooDeep, TooLong, NoMemory}
-use Rattle.datum_reader.specs.Answer.{max_length, max_depth, Reads, Breaks, EndsInside, Fault, ReadFault}
+use Rattle.datum_reader.specs.Answer.{max_length, max_depth, Reads, Breaks, Fault, ReadFault}
 use Rattle.datum_reader.specs.Machine.{Frame, Run, run, start}
 use Rattle.datum_reader.specs.Machine.Run.{On, Stray as StrayRun, Deep as DeepRun}
 use Rattle.datum_reader.proofs.WholeTrees.{text_run, one_text}
 use Rattle.datum_reader.proofs.Lifts.{IsOn}
-use Rattle.datum_reader.proofs.Ends.{Going, going, begins_on, on_begins, frame_place, Shows}
+use Rattle.datum_reader.proofs.Ends.{begins_on, on_begins, frame_place, Shows}
 use Rattle.datum_reader.proofs.OneReading.{outcome, fault_shown}
 
 -- The fault that is told
@@ -176,9 +176,10 @@ short_answered text short =
       | inl t ↦
           broken text (lexed text).ending refl short (text_begins max_depth (lexed text).tokens t.0 t.1)
           (λ clean.
-          inl
-          (data_of t.0,
-          record { short = short; clean = clean; trees = t.0; is_text = t.1; read = refl }))
+          inl (
+            data_of t.0,
+            record { short = short; clean = clean; trees = t.0; is_text = t.1; read = refl },
+          ))
       | inr f ↦ tokens_answered text f.0 f.1 short
     ]
 

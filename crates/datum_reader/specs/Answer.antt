@@ -2,9 +2,9 @@
 --
 -- A text has at most 2^20 bytes, and its data are nested at most 1,000 deep. Its fault is at the first token
 -- after which no such text goes on, or at what is still open at its end.
-use Rattle.std.specs.Prelude.{◌≡◌, ℕ, ◌<◌, ◌≤◌, List, [], length, ◌⊎◌}
+use Rattle.std.specs.Prelude.{◌≡◌, ℕ, ◌<◌, ◌≤◌, List, length, ◌⊎◌}
 use Rattle.scheme_base.specs.declared.pos.Pos.{Pos}
-use Rattle.datum_form.specs.Syntax.{Token, Syntax, IsText, Begins}
+use Rattle.datum_form.specs.Syntax.{Syntax, IsText, Begins}
 use Rattle.datum_form.specs.Data.{Items, data_of}
 use Rattle.datum_form.specs.Faults.{Strays, Deepens, Unclosed as UnclosedTokens}
 use Rattle.datum_form.specs.Text.{Ending, Lexed, lexed}
