@@ -1,14 +1,14 @@
 -- The machine that fetches from memory, and the one whose code is given, do the same where no byte that
 -- may be executed may be written.
-use Rattle.std.proofs.Common.{◌≡◌, ℕ, zero, suc, ◌+◌, ◌*◌, ◌%◌, Bool, true, false, refl, sym, ap, ◌∙◌, arith}
-use Rattle.std.specs.Prelude.{pos, negsuc, nat_eq, ◌&&◌, not, if◌then◌else◌}
+use Rattle.std.proofs.Common.{◌≡◌, ℕ, zero, suc, ◌+◌, ◌*◌, ◌%◌, ◌<◌, ◌≤◌, Bool, true, false, refl, sym, ap, ◌∙◌, arith}
+use Rattle.std.specs.Prelude.{pos, negsuc, nat_eq, nat_le, nat_lt, ◌&&◌, not, if◌then◌else◌}
 use Rattle.scheme_base.specs.Outside.{Event, ReadByte, read_event, next_fails}
 use Rattle.scheme_base.specs.Runs.{Machine, after, SameRuns}
 use Rattle.rv_form.specs.declared.instr.Instr.{Instr}
-use Rattle.rv_form.specs.declared.instr.Instr.TheVariants.{Ecall}
-use Rattle.rv_form.specs.Image.{Executing, Writing}
+use Rattle.rv_form.specs.declared.instr.Instr.TheVariants.{Lb, Lh, Lw, Ld, Lbu, Lhu, Lwu, Sb, Sh, Sw, Sd, Ecall, Ebreak}
+use Rattle.rv_form.specs.Image.{Access, Executing, Writing}
 use Rattle.rv_form.specs.Instruction.{instruction_of}
-use Rattle.rv_form.specs.Machine.{World, State, Run, Running, Ended, Trapped, Fetched, Found, NoWord, NoPlace, found, fetched, fetch, load, store, all_allowed, Ask, Answers, Reads, Writes, Sends, Leaves, Unknown, asked, asked_read, asked_write, received, reg, system, act, act_at, step, trace_of, ending_of, machine_in}
+use Rattle.rv_form.specs.Machine.{World, State, Run, Running, Ended, Trapped, Fetched, Found, NoWord, NoPlace, found, fetched, fetch, load, store, all_allowed, Ask, Answers, Reads, Writes, Sends, Leaves, Unknown, asked, asked_read, asked_write, received, reg, system, loaded, stored, stores, address, act, act_at, step, trace_of, ending_of, machine_in}
 use Rattle.rv_form.proofs.Walk.{Coded, coded_step, coded_machine}
 
 -- no byte that may be executed may be written
@@ -57,16 +57,47 @@ number_test w s false false false status h = cc
 reads_open : (w : World) (s : State) → asked w s ≡ Reads → w.allows Writing (reg s 11) ≡ true
 reads_open w s h = number_test w s _ _ _ _ h
 
-store_other : (memory : ℕ → ℕ) (a value b : ℕ) (same : Bool) → nat_eq b a ≡ same
-    → (b ≡ a → ⊥) → store 1 memory a value b ≡ memory b
-store_other memory a value b same e apart = grind arith
+both_true : (a b : Bool) → (a && b) ≡ true → (a ≡ true) × (b ≡ true)
+both_true true true h = (refl, refl)
+both_true true false h = cc
+both_true false b h = cc
+
+open_first : (w : World) (access : Access) (count a b : ℕ) → w.allows access a ≡ true
+    → (a + 1 ≤ b → b < a + 1 + count → w.allows access b ≡ true)
+    → (first : Bool) → nat_eq b a ≡ first → a ≤ b → b < a + suc count → w.allows access b ≡ true
+open_first w access count a b here rest true e low high =
+    let same : b ≡ a = grind arith in
+    ap (w.allows access) same ∙ here
+open_first w access count a b here rest false e low high =
+    let apart : b ≡ a → ⊥ = grind arith in
+    rest (omega (arith, apart)) (omega arith)
+
+open_at : (w : World) (access : Access) (count a b : ℕ) → all_allowed w access count a ≡ true
+    → a ≤ b → b < a + count → w.allows access b ≡ true
+open_at w access zero a b usable low high = absurd (omega arith)
+open_at w access (suc count) a b usable low high =
+    let opens = both_true _ _ usable in
+    open_first w access count a b opens.0 (open_at w access count (a + 1) b opens.1) (nat_eq b a) refl low high
+
+store_other : (memory : ℕ → ℕ) (count a value b : ℕ) (inside : Bool) → (nat_le a b && nat_lt b (a + count)) ≡ inside
+    → (a ≤ b → b < a + count → ⊥) → store count memory a value b ≡ memory b
+store_other memory count a value b inside e apart = grind arith
+
+-- a store to places that may be written leaves those that may not be
+store_keeps : (w : World) (memory : ℕ → ℕ) (count a value : ℕ) → all_allowed w Writing count a ≡ true
+    → SameCode w memory (store count memory a value)
+store_keeps w memory count a value usable =
+    record {
+      same = λ b kept. store_other memory count a value b _ refl
+          (λ low high. let t : true ≡ false = sym (open_at w Writing count a b usable low high) ∙ kept in cc);
+    }
+
+one_allowed : (w : World) (access : Access) (a : ℕ) → w.allows access a ≡ true → all_allowed w access 1 a ≡ true
+one_allowed w access a usable = rw usable refl
 
 received_keeps : (w : World) (event : Event) (a : ℕ) (memory : ℕ → ℕ) → w.allows Writing a ≡ true
     → SameCode w memory (received event a memory)
-received_keeps w (ReadByte byte) a memory usable =
-    record {
-      same = λ b kept. store_other memory a byte b _ refl (λ (e : b ≡ a). let t : true ≡ false = sym usable ∙ (ap (w.allows Writing) (sym e) ∙ kept) in cc);
-    }
+received_keeps w (ReadByte byte) a memory usable = store_keeps w memory 1 a byte (one_allowed w Writing a usable)
 received_keeps w event a memory usable = same_all
 
 system_keeps : (w : World) (ask : Ask) (s : State) → (ask ≡ Reads → w.allows Writing (reg s 11) ≡ true)
@@ -78,8 +109,33 @@ system_keeps w (Sends byte) s usable = same_all
 system_keeps w (Leaves status) s usable = tt
 system_keeps w Unknown s usable = tt
 
+loaded_keeps : (w : World) (usable : Bool) (count : ℕ) (shape : ℕ → ℕ) (rd a : ℕ) (s : State)
+    → Keeps w s.memory (loaded usable count shape rd a s)
+loaded_keeps w true count shape rd a s = same_all
+loaded_keeps w false count shape rd a s = tt
+
+stored_keeps : (w : World) (usable : Bool) (count a value : ℕ) (s : State) → all_allowed w Writing count a ≡ usable
+    → Keeps w s.memory (stored usable count a value s)
+stored_keeps w true count a value s usable = store_keeps w s.memory count a value usable
+stored_keeps w false count a value s usable = tt
+
+stores_keep : (w : World) (count a value : ℕ) (s : State) → Keeps w s.memory (stores w count a value s)
+stores_keep w count a value s = stored_keeps w (all_allowed w Writing count a) count a value s refl
+
 act_keeps : (w : World) (instr : Instr) (s : State) → Keeps w s.memory (act w instr s)
+act_keeps w (Lb rd rs1 imm) s = loaded_keeps w _ _ _ _ _ s
+act_keeps w (Lh rd rs1 imm) s = loaded_keeps w _ _ _ _ _ s
+act_keeps w (Lw rd rs1 imm) s = loaded_keeps w _ _ _ _ _ s
+act_keeps w (Ld rd rs1 imm) s = loaded_keeps w _ _ _ _ _ s
+act_keeps w (Lbu rd rs1 imm) s = loaded_keeps w _ _ _ _ _ s
+act_keeps w (Lhu rd rs1 imm) s = loaded_keeps w _ _ _ _ _ s
+act_keeps w (Lwu rd rs1 imm) s = loaded_keeps w _ _ _ _ _ s
+act_keeps w (Sb rs1 rs2 imm) s = stores_keep w 1 (address s rs1 imm) (reg s rs2) s
+act_keeps w (Sh rs1 rs2 imm) s = stores_keep w 2 (address s rs1 imm) (reg s rs2) s
+act_keeps w (Sw rs1 rs2 imm) s = stores_keep w 4 (address s rs1 imm) (reg s rs2) s
+act_keeps w (Sd rs1 rs2 imm) s = stores_keep w 8 (address s rs1 imm) (reg s rs2) s
 act_keeps w Ecall s = system_keeps w (asked w s) s (reads_open w s)
+act_keeps w Ebreak s = tt
 act_keeps w instr s = same_all
 
 act_at_keeps : (w : World) (at : Fetched) (s : State) → Keeps w s.memory (act_at w at s)
@@ -93,11 +149,6 @@ keeps_on w first memory known (Ended status calls) next = tt
 keeps_on w first memory known (Trapped kind pc calls) next = tt
 
 -- what is fetched stays the same
-
-both_true : (a b : Bool) → (a && b) ≡ true → (a ≡ true) × (b ≡ true)
-both_true true true h = (refl, refl)
-both_true true false h = cc
-both_true false b h = cc
 
 load_same : (w : World) → IsApart w → (before now : ℕ → ℕ) → SameCode w before now
     → (count a : ℕ) → all_allowed w Executing count a ≡ true → load count now a ≡ load count before a

@@ -3,7 +3,7 @@ use Rattle.std.proofs.Common.{◌≡◌, ℕ, ◌+◌, ◌<◌, ◌^◌, arith}
 use Rattle.std.specs.Prelude.{pos, ◌*ℤ◌}
 use Rattle.std.proofs.lemmas.Int.{ints}
 use Rattle.rv_form.specs.Numbers.{word, add, far_part, near_part}
-use Rattle.rv_form.specs.Instruction.{IsWithin}
+use Rattle.rv_form.specs.Formats.{IsWithin}
 
 pub far_within : (d : ℕ) → d + 0x800 < 2 ^ 31 → IsWithin 0x8_0000 (far_part (pos d))
 far_within d small = record { low = omega (arith, ints); high = omega (arith, ints) }

@@ -4,3 +4,4 @@ pub mod Steadiness
 pub mod Walk
 pub mod Coded
 pub mod CodeBytes
+pub mod Edges

@@ -1,10 +1,10 @@
 -- The machine stays where it has stopped, and makes one call a step at most.
-use Rattle.std.proofs.Common.{◌≡◌, refl, inl, inr, Some}
+use Rattle.std.proofs.Common.{◌≡◌, ℕ, Bool, true, false, refl, inl, inr, Some}
 use Rattle.scheme_base.specs.Outside.{Ending}
 use Rattle.scheme_base.proofs.Runs.{Grows, Steady}
 use Rattle.rv_form.specs.declared.instr.Instr.{Instr}
-use Rattle.rv_form.specs.declared.instr.Instr.TheVariants.{Ecall}
-use Rattle.rv_form.specs.Machine.{World, State, Run, Running, Ended, Trapped, Fetched, Found, NoWord, NoPlace, Ask, Answers, Reads, Writes, Sends, Leaves, Unknown, asked, system, act, act_at, fetch, step, trace_of, ending_of, machine_in}
+use Rattle.rv_form.specs.declared.instr.Instr.TheVariants.{Lb, Lh, Lw, Ld, Lbu, Lhu, Lwu, Sb, Sh, Sw, Sd, Ecall}
+use Rattle.rv_form.specs.Machine.{World, State, Run, Running, Ended, Trapped, Fetched, Found, NoWord, NoPlace, Ask, Answers, Reads, Writes, Sends, Leaves, Unknown, asked, system, loaded, stored, act, act_at, fetch, step, trace_of, ending_of, machine_in}
 use Rattle.rv_form.proofs.Walk.{Coded, coded_step, coded_machine}
 
 system_grows : (w : World) (ask : Ask) (s : State) → Grows s.calls.trace (trace_of (system w ask s))
@@ -15,8 +15,29 @@ system_grows w (Sends byte) s = inl refl
 system_grows w (Leaves status) s = inl refl
 system_grows w Unknown s = inl refl
 
+loaded_grows : (usable : Bool) (count : ℕ) (shape : ℕ → ℕ) (rd a : ℕ) (s : State)
+    → Grows s.calls.trace (trace_of (loaded usable count shape rd a s))
+loaded_grows true count shape rd a s = inl refl
+loaded_grows false count shape rd a s = inl refl
+
+stored_grows : (usable : Bool) (count a value : ℕ) (s : State)
+    → Grows s.calls.trace (trace_of (stored usable count a value s))
+stored_grows true count a value s = inl refl
+stored_grows false count a value s = inl refl
+
 -- every instruction but a system call leaves the trace as it is
 act_grows : (w : World) (instr : Instr) (s : State) → Grows s.calls.trace (trace_of (act w instr s))
+act_grows w (Lb rd rs1 imm) s = loaded_grows _ _ _ _ _ s
+act_grows w (Lh rd rs1 imm) s = loaded_grows _ _ _ _ _ s
+act_grows w (Lw rd rs1 imm) s = loaded_grows _ _ _ _ _ s
+act_grows w (Ld rd rs1 imm) s = loaded_grows _ _ _ _ _ s
+act_grows w (Lbu rd rs1 imm) s = loaded_grows _ _ _ _ _ s
+act_grows w (Lhu rd rs1 imm) s = loaded_grows _ _ _ _ _ s
+act_grows w (Lwu rd rs1 imm) s = loaded_grows _ _ _ _ _ s
+act_grows w (Sb rs1 rs2 imm) s = stored_grows _ _ _ _ s
+act_grows w (Sh rs1 rs2 imm) s = stored_grows _ _ _ _ s
+act_grows w (Sw rs1 rs2 imm) s = stored_grows _ _ _ _ s
+act_grows w (Sd rs1 rs2 imm) s = stored_grows _ _ _ _ s
 act_grows w Ecall s = system_grows w (asked w s) s
 act_grows w instr s = inl refl
 

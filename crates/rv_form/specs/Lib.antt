@@ -1,4 +1,6 @@
 pub mod Numbers
+pub mod Arithmetic
+pub mod Formats
 pub mod Instruction
 pub mod Image
 pub mod Machine

@@ -4,14 +4,15 @@
 -- which addresses may be used, and how, is fixed by the image, and other bytes are never seen, since
 -- their use is a trap. System calls have their number in register 17: 63 reads, 64 writes, 93 exits. The
 -- channel is in register 10, the buffer's address in 11, the length in 12, and the answer goes to 10.
-use Rattle.std.specs.Prelude.{ℕ, zero, suc, ◌+◌, ◌-◌, ◌*◌, ◌/◌, ◌%◌, ◌^◌, ℤ, pos, negsuc, ◌*ℤ◌, List, reverse, Option, Some, None, Bool, true, false, if◌then◌else◌, not, nat_eq, nat_lt, nat_le, ◌&&◌, ◌||◌}
+use Rattle.std.specs.Prelude.{ℕ, zero, suc, ◌+◌, ◌-◌, ◌*◌, ◌/◌, ◌%◌, ◌^◌, ℤ, pos, negsuc, ◌*ℤ◌, List, reverse, Option, Some, None, Bool, true, false, if◌then◌else◌, not, nat_eq, nat_lt, nat_le, ◌&&◌, ◌||◌, bit_and, bit_or, bit_xor}
 use Rattle.scheme_base.specs.declared.env.Env.{Env}
 use Rattle.scheme_base.specs.Outside.{Event, ReadByte, ReadEnd, ReadFailed, Wrote, WriteFailed, Calls, no_calls, next_fails, read_event, after_read, write_event, after_write, next_error_fails, after_send, Ending, Exits, Traps}
 use Rattle.scheme_base.specs.Runs.{Machine}
 use Rattle.rv_form.specs.declared.instr.Instr.{Instr}
-use Rattle.rv_form.specs.declared.instr.Instr.TheVariants.{Auipc, Addi, Beq, Bne, Jal, Ecall}
+use Rattle.rv_form.specs.declared.instr.Instr.TheVariants.{Lui, Auipc, Jal, Jalr, Beq, Bne, Blt, Bge, Bltu, Bgeu, Lb, Lh, Lw, Ld, Lbu, Lhu, Lwu, Sb, Sh, Sw, Sd, Addi, Slti, Sltiu, Xori, Ori, Andi, Slli, Srli, Srai, Add, Sub, Sll, Slt, Sltu, Xor, Srl, Sra, Or, And, Mul, Mulh, Mulhsu, Mulhu, Div, Divu, Rem, Remu, Addiw, Slliw, Srliw, Sraiw, Addw, Subw, Sllw, Srlw, Sraw, Mulw, Divw, Divuw, Remw, Remuw, Fence, Ecall, Ebreak}
 use Rattle.rv_form.specs.declared.image.Image.{Image}
-use Rattle.rv_form.specs.Numbers.{word, add}
+use Rattle.rv_form.specs.Numbers.{word, extended, add}
+use Rattle.rv_form.specs.Arithmetic.{integer, low_half, narrow, sub, mul, high_product, less, flag, shift_left, shift_right, shift_signed, divide, remainder, divide_unsigned, remainder_unsigned, shift_left_narrow, shift_right_narrow, shift_signed_narrow}
 use Rattle.rv_form.specs.Instruction.{instruction_of}
 use Rattle.rv_form.specs.Image.{Access, Executing, Writing, Reading, byte_at, allows}
 
@@ -25,7 +26,8 @@ pub data Run : Type 0 where
   Running : (state : State) → Run
   -- it has exited with this status
   Ended : (status : ℕ) (calls : Calls) → Run
-  -- it has no step: 1 no such word, 2 no such place of an instruction, 5 another system call number
+  -- It has no step: 1 no such word, 2 no such place of an instruction, 3 a load from a place that may not be
+  -- read, 4 a store to one that may not be written, 5 another system call number, 6 a breakpoint.
   Trapped : (kind pc : ℕ) (calls : Calls) → Run
 
 -- what never changes in a run
@@ -77,8 +79,29 @@ with_reg regs r value q = if nat_eq q r then value else regs q
 abbrev pub put : (r value : ℕ) → State → Run
 put r value s = Running (record s { pc = s.pc + 4; regs = with_reg s.regs r value })
 
+-- a branch or a jump is carried out whatever its target is; the fetch there may then be a trap
 abbrev pub branch : (taken : Bool) → ℤ → State → Run
 branch taken imm s = Running (record s { pc = if taken then add s.pc (word imm) else s.pc + 4 })
+
+abbrev pub jump : (target rd : ℕ) → State → Run
+jump target rd s = Running (record s { pc = target; regs = with_reg s.regs rd (s.pc + 4) })
+
+-- Loads and stores of so many bytes at any place, the lowest byte first. Each byte must be one that may be
+-- used so. `shape` makes a register's value of the number that is loaded.
+
+abbrev pub loaded : (usable : Bool) → (count : ℕ) (shape : ℕ → ℕ) (rd a : ℕ) → State → Run
+loaded true count shape rd a s = put rd (shape (load count s.memory a)) s
+loaded false count shape rd a s = Trapped 3 s.pc s.calls
+
+abbrev pub loads : World → (count : ℕ) (shape : ℕ → ℕ) (rd a : ℕ) → State → Run
+loads w count shape rd a s = loaded (all_allowed w Reading count a) count shape rd a s
+
+abbrev pub stored : (usable : Bool) → (count a value : ℕ) → State → Run
+stored true count a value s = Running (record s { pc = s.pc + 4; memory = store count s.memory a value })
+stored false count a value s = Trapped 4 s.pc s.calls
+
+abbrev pub stores : World → (count a value : ℕ) → State → Run
+stores w count a value s = stored (all_allowed w Writing count a) count a value s
 
 -- system calls
 
@@ -141,14 +164,83 @@ system w (Sends byte) s =
 system w (Leaves status) s = Ended status s.calls
 system w Unknown s = Trapped 5 s.pc s.calls
 
+-- the address that a register and an immediate give, and the even one at or below it
+abbrev pub address : State → (rs1 : ℕ) → ℤ → ℕ
+address s rs1 imm = add (reg s rs1) (word imm)
+
+abbrev pub even : ℕ → ℕ
+even a = a - a % 2
+
+abbrev pub as_it_is : ℕ → ℕ
+as_it_is n = n
+
 -- what each instruction does
 abbrev pub act : World → Instr → State → Run
+act w (Lui rd imm) s = put rd (word (pos 4096 *ℤ imm)) s
 act w (Auipc rd imm) s = put rd (add s.pc (word (pos 4096 *ℤ imm))) s
-act w (Addi rd rs1 imm) s = put rd (add (reg s rs1) (word imm)) s
+act w (Jal rd imm) s = jump (add s.pc (word imm)) rd s
+act w (Jalr rd rs1 imm) s = jump (even (address s rs1 imm)) rd s
 act w (Beq rs1 rs2 imm) s = branch (nat_eq (reg s rs1) (reg s rs2)) imm s
 act w (Bne rs1 rs2 imm) s = branch (not (nat_eq (reg s rs1) (reg s rs2))) imm s
-act w (Jal rd imm) s = Running (record s { pc = add s.pc (word imm); regs = with_reg s.regs rd (s.pc + 4) })
+act w (Blt rs1 rs2 imm) s = branch (less (reg s rs1) (reg s rs2)) imm s
+act w (Bge rs1 rs2 imm) s = branch (not (less (reg s rs1) (reg s rs2))) imm s
+act w (Bltu rs1 rs2 imm) s = branch (nat_lt (reg s rs1) (reg s rs2)) imm s
+act w (Bgeu rs1 rs2 imm) s = branch (not (nat_lt (reg s rs1) (reg s rs2))) imm s
+act w (Lb rd rs1 imm) s = loads w 1 (extended 0x80) rd (address s rs1 imm) s
+act w (Lh rd rs1 imm) s = loads w 2 (extended 0x8000) rd (address s rs1 imm) s
+act w (Lw rd rs1 imm) s = loads w 4 (extended 0x8000_0000) rd (address s rs1 imm) s
+act w (Ld rd rs1 imm) s = loads w 8 as_it_is rd (address s rs1 imm) s
+act w (Lbu rd rs1 imm) s = loads w 1 as_it_is rd (address s rs1 imm) s
+act w (Lhu rd rs1 imm) s = loads w 2 as_it_is rd (address s rs1 imm) s
+act w (Lwu rd rs1 imm) s = loads w 4 as_it_is rd (address s rs1 imm) s
+act w (Sb rs1 rs2 imm) s = stores w 1 (address s rs1 imm) (reg s rs2) s
+act w (Sh rs1 rs2 imm) s = stores w 2 (address s rs1 imm) (reg s rs2) s
+act w (Sw rs1 rs2 imm) s = stores w 4 (address s rs1 imm) (reg s rs2) s
+act w (Sd rs1 rs2 imm) s = stores w 8 (address s rs1 imm) (reg s rs2) s
+act w (Addi rd rs1 imm) s = put rd (add (reg s rs1) (word imm)) s
+act w (Slti rd rs1 imm) s = put rd (flag (less (reg s rs1) (word imm))) s
+act w (Sltiu rd rs1 imm) s = put rd (flag (nat_lt (reg s rs1) (word imm))) s
+act w (Xori rd rs1 imm) s = put rd (bit_xor (reg s rs1) (word imm)) s
+act w (Ori rd rs1 imm) s = put rd (bit_or (reg s rs1) (word imm)) s
+act w (Andi rd rs1 imm) s = put rd (bit_and (reg s rs1) (word imm)) s
+act w (Slli rd rs1 imm) s = put rd (shift_left (reg s rs1) (word imm)) s
+act w (Srli rd rs1 imm) s = put rd (shift_right (reg s rs1) (word imm)) s
+act w (Srai rd rs1 imm) s = put rd (shift_signed (reg s rs1) (word imm)) s
+act w (Add rd rs1 rs2) s = put rd (add (reg s rs1) (reg s rs2)) s
+act w (Sub rd rs1 rs2) s = put rd (sub (reg s rs1) (reg s rs2)) s
+act w (Sll rd rs1 rs2) s = put rd (shift_left (reg s rs1) (reg s rs2)) s
+act w (Slt rd rs1 rs2) s = put rd (flag (less (reg s rs1) (reg s rs2))) s
+act w (Sltu rd rs1 rs2) s = put rd (flag (nat_lt (reg s rs1) (reg s rs2))) s
+act w (Xor rd rs1 rs2) s = put rd (bit_xor (reg s rs1) (reg s rs2)) s
+act w (Srl rd rs1 rs2) s = put rd (shift_right (reg s rs1) (reg s rs2)) s
+act w (Sra rd rs1 rs2) s = put rd (shift_signed (reg s rs1) (reg s rs2)) s
+act w (Or rd rs1 rs2) s = put rd (bit_or (reg s rs1) (reg s rs2)) s
+act w (And rd rs1 rs2) s = put rd (bit_and (reg s rs1) (reg s rs2)) s
+act w (Mul rd rs1 rs2) s = put rd (mul (reg s rs1) (reg s rs2)) s
+act w (Mulh rd rs1 rs2) s = put rd (high_product (integer (reg s rs1)) (integer (reg s rs2))) s
+act w (Mulhsu rd rs1 rs2) s = put rd (high_product (integer (reg s rs1)) (pos (reg s rs2))) s
+act w (Mulhu rd rs1 rs2) s = put rd (high_product (pos (reg s rs1)) (pos (reg s rs2))) s
+act w (Div rd rs1 rs2) s = put rd (divide (reg s rs1) (reg s rs2)) s
+act w (Divu rd rs1 rs2) s = put rd (divide_unsigned (reg s rs1) (reg s rs2)) s
+act w (Rem rd rs1 rs2) s = put rd (remainder (reg s rs1) (reg s rs2)) s
+act w (Remu rd rs1 rs2) s = put rd (remainder_unsigned (reg s rs1) (reg s rs2)) s
+act w (Addiw rd rs1 imm) s = put rd (narrow (add (reg s rs1) (word imm))) s
+act w (Slliw rd rs1 imm) s = put rd (shift_left_narrow (reg s rs1) (word imm)) s
+act w (Srliw rd rs1 imm) s = put rd (shift_right_narrow (reg s rs1) (word imm)) s
+act w (Sraiw rd rs1 imm) s = put rd (shift_signed_narrow (reg s rs1) (word imm)) s
+act w (Addw rd rs1 rs2) s = put rd (narrow (add (reg s rs1) (reg s rs2))) s
+act w (Subw rd rs1 rs2) s = put rd (narrow (sub (reg s rs1) (reg s rs2))) s
+act w (Sllw rd rs1 rs2) s = put rd (shift_left_narrow (reg s rs1) (reg s rs2)) s
+act w (Srlw rd rs1 rs2) s = put rd (shift_right_narrow (reg s rs1) (reg s rs2)) s
+act w (Sraw rd rs1 rs2) s = put rd (shift_signed_narrow (reg s rs1) (reg s rs2)) s
+act w (Mulw rd rs1 rs2) s = put rd (narrow (mul (reg s rs1) (reg s rs2))) s
+act w (Divw rd rs1 rs2) s = put rd (narrow (divide (narrow (reg s rs1)) (narrow (reg s rs2)))) s
+act w (Divuw rd rs1 rs2) s = put rd (narrow (divide_unsigned (low_half (reg s rs1)) (low_half (reg s rs2)))) s
+act w (Remw rd rs1 rs2) s = put rd (narrow (remainder (narrow (reg s rs1)) (narrow (reg s rs2)))) s
+act w (Remuw rd rs1 rs2) s = put rd (narrow (remainder_unsigned (low_half (reg s rs1)) (low_half (reg s rs2)))) s
+act w (Fence rd rs1 imm) s = Running (record s { pc = s.pc + 4 })
 act w Ecall s = system w (asked w s) s
+act w Ebreak s = Trapped 6 s.pc s.calls
 
 abbrev pub act_at : World → Fetched → State → Run
 act_at w (Found instr) s = act w instr s

@@ -14,6 +14,10 @@ signed half n = if nat_lt n half then pos n else negsuc (2 * half - 1 - n)
 abbrev pub word : ℤ → ℕ
 word z = low_part (2 ^ 64) z
 
+-- a number below 2 * half, with its sign extended to a word
+abbrev pub extended : (half : ℕ) → ℕ → ℕ
+extended half n = word (signed half n)
+
 -- the sum of two words
 abbrev pub add : ℕ → ℕ → ℕ
 add a b = (a + b) % 2 ^ 64
