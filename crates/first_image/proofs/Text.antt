@@ -4,7 +4,7 @@ use Rattle.std.specs.Prelude.{slice_get, nat_eq, ◌/◌, ◌%◌, if◌then◌e
 use Rattle.scheme_base.specs.declared.env.Env.{Env}
 use Rattle.rv_form.specs.declared.instr.Instr.{Instr}
 use Rattle.rv_form.specs.declared.instr.Instr.TheVariants.{Auipc, Addi}
-use Rattle.rv_form.specs.Instruction.{code_bytes}
+use Rattle.rv_form.specs.Instruction.{AllValid, code_bytes}
 use Rattle.rv_form.specs.Image.{Executing, Writing, Reading, byte_at, lies_in, flag_of}
 use Rattle.rv_form.specs.Machine.{World, world_of, Found}
 use Rattle.rv_form.proofs.Words.{AllDecode, none, also, decodes}
@@ -12,6 +12,7 @@ use Rattle.rv_form.proofs.Distances.{far_within, near_within}
 use Rattle.rv_form.proofs.Walk.{Coded, ◌$◌}
 use Rattle.rv_form.proofs.Coded.{IsApart, coded_in}
 use Rattle.rv_form.proofs.CodeBytes.{Holds, IsOpen, code_stands, holds_past, one_segment_holds, one_segment_open}
+use Rattle.rv_encode.proofs.FromWords.{all_valid}
 use Rattle.first_image.specs.First.{first_code, failure_line, first_segment, first_image}
 
 abbrev pub memory_of : List ℕ → ℕ → ℕ
@@ -34,6 +35,9 @@ code_decodes count few =
     $ also refl $ also refl $ also refl
     $ also refl $ also refl $ also refl $ also refl $ also refl $ also refl $ also refl
     $ also refl $ also refl $ also refl $ none
+
+pub code_valid : (count : ℕ) → count < 2 ^ 30 → AllValid (first_code count)
+code_valid count few = all_valid (first_code count) (code_decodes count few)
 
 text_fits : (chars : List ℕ) → length (first_segment chars).bytes ≤ (first_segment chars).memsz
 text_fits chars = omega arith

@@ -1,8 +1,24 @@
-ghost use Rattle.std.specs.Prelude.{◌≡◌, ◌+◌, ◌<◌, ◌^◌, pos};
+ghost use Rattle.std.specs.Prelude.{◌≡◌, ◌+◌, ◌++◌, ◌<◌, ◌^◌, pos, OnOk};
 ghost use Rattle.rv_form.specs.Numbers.{far_part, near_part};
+ghost use Rattle.rv_form.specs.Instruction.{AllValid, code_bytes};
 ghost use Rattle.first_image.specs.First.{first_code};
 
+use crate::fields::push_number;
+use rv_encode::encode;
 use rv_form::Instr;
+use scheme_base::Bytes;
+use std::alloc::AllocError;
+
+/// Puts the words of some instructions at the end.
+pub fn push_code(out: &mut Bytes, code: &[Instr]) -> Result<(), AllocError>
+    requires { AllValid code.now }
+    ensures { OnOk result (out.new ≡ out.old ++ code_bytes code.now) }
+{
+    for instr in code {
+        push_number(out, 4, u64::from(encode(*instr)))?;
+    }
+    Ok(())
+}
 
 /// The code that writes so many characters, which stand 4 bytes past its end.
 pub fn code_for(count: u32) -> [Instr; 30]

@@ -3,8 +3,7 @@ ghost use Rattle.first_image.specs.First.{first_segment, first_file};
 ghost use Rattle.first_image.specs.File.{header_fields, segment_fields};
 ghost use Rattle.first_image.specs.Agrees.{Agrees};
 
-use crate::code::code_for;
-use crate::encode::push_code;
+use crate::code::{code_for, push_code};
 use crate::fields::{Field, push_fields, push_zeros};
 use rv_form::Segment;
 use scheme_base::{Bytes, List};

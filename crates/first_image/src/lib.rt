@@ -6,7 +6,6 @@
 #![tactic(auto)]
 
 mod code;
-mod encode;
 mod fields;
 mod file;
 

@@ -78,6 +78,11 @@ format_of Ebreak = FormatWord 0x10_0073
 abbrev pub IsValid : Instr → Type 0
 IsValid instr = IsInRange (format_of instr)
 
+-- a piece of code of which each instruction has a word
+abbrev pub AllValid : List Instr → Type 0
+AllValid [] = Unit {0}
+AllValid (instr ∷ rest) = IsValid instr × AllValid rest
+
 -- the word of an instruction
 abbrev pub word_of : Instr → ℕ
 word_of instr = word_in (format_of instr)
