@@ -1,12 +1,12 @@
 -- The instruction of a word is valid, and its word is that word: once for each format, and then for each
 -- row of the table.
-use Rattle.std.proofs.Common.{◌≡◌, ℕ, ◌+◌, ◌*◌, ◌/◌, ◌%◌, ◌<◌, ◌^◌, Bool, true, false, List, [], ◌∷◌, Option, Some, None, refl, sym, ap, ◌∙◌, subst, arith, lit<}
-use Rattle.std.specs.Prelude.{ℤ, pos, negsuc, unsigned_abs, nat_eq, ◌&&◌, if◌then◌else◌}
+use Rattle.std.proofs.Common.{◌≡◌, ℕ, ◌+◌, ◌*◌, ◌/◌, ◌%◌, ◌<◌, ◌^◌, Bool, true, false, List, [], ◌∷◌, Some, refl, sym, ap, ◌∙◌, subst, arith}
+use Rattle.std.specs.Prelude.{unsigned_abs, nat_eq, ◌&&◌, if◌then◌else◌}
 use Rattle.std.proofs.lemmas.Int.{ints}
 use Rattle.rv_form.specs.declared.instr.Instr.{Instr}
 use Rattle.rv_form.specs.Numbers.{low_bytes, low_part, signed}
-use Rattle.rv_form.specs.Formats.{Format, FormatR, FormatI, FormatShift6, FormatShift5, FormatS, FormatB, FormatU, FormatJ, FormatWord, Fields, fields_of, word_in, IsInRange, IsWithin, IsEvenWithin, IsAmount, opcode_of, funct3_of, funct7_of, above6_of, rd_of, rs1_of, rs2_of}
-use Rattle.rv_form.proofs.Words.{number_of, Decodes, AllDecode, none, also}
+use Rattle.rv_form.specs.Formats.{Format, FormatR, FormatI, FormatShift6, FormatShift5, FormatS, FormatB, FormatU, FormatJ, FormatWord, Fields, fields_of, word_in, IsInRange, IsWithin, opcode_of, funct3_of, funct7_of, above6_of, rd_of, rs1_of, rs2_of}
+use Rattle.rv_form.proofs.Words.{number_of, AllDecode, also}
 use Rattle.rv_form.specs.Instruction.{Row, RowR, RowI, RowShift6, RowShift5, RowS, RowB, RowU, RowJ, RowWord, rows, has_row, made_by, in_rows, instruction_of, format_of, word_of, IsValid, AllValid}
 
 -- a field's number as a signed one, back in the field and in its range
