@@ -81,7 +81,8 @@ fn apply_rules(c: &Constraints, words: &[u64], next: &mut [u64])
     requires next_size { length next.old ≡ size_of c.now }
     ensures { (row atom : ℕ) → In c.now next.new row atom ↔ (In c.now next.old row atom ⊎ Given c.now.rules (In c.now words.now) row atom) }
 {
-    for rule in c.rules.as_slice() {
+    let rules = c.rules.as_slice();
+    for rule in rules {
         if rule_holds(c, words, rule) {
             give(c, words, rule, next);
         }

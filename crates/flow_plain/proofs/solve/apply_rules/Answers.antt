@@ -8,8 +8,8 @@ use Rattle.flow_plain.proofs.solve.apply_rules.Goals.{then-rule_holds, else-rule
 pub loop-rule-preserved : goal.loop-rule-preserved
 loop-rule-preserved c =
     let place : ℕ = c.loop-rule.rule-index in
-    let rule = rule_here c.as_slice-rule-items.result.now place in
-    let listed = listed_in c.args.c.now.rules c.as_slice-rule-items.result.now place c.as_slice-rule-items.ensures c.loop-rule-test.true in
+    let rule = rule_here c.as_slice-rules.result.now place in
+    let listed = listed_in c.args.c.now.rules c.as_slice-rules.result.now place c.as_slice-rules.ensures c.loop-rule-test.true in
     let Put : List ℕ → Type 0 =
     λ words. (row atom : ℕ) → In c.args.c.now words row atom
     ↔ (In c.args.c.now c.args.next.now row atom ⊎ GivenBelow c.args.c.now c.args.words.now (place + 1) row atom) in
@@ -27,4 +27,4 @@ loop-rule-preserved c =
 pub returns : goal.returns
 returns c =
     rules_all c.args.c.now c.args.words.now c.args.next.now c.loop-rule.next c.loop-rule.rule-index
-    (omega (arith, ap length c.as_slice-rule-items.ensures)) c.loop-rule.invariant
+    (omega (arith, ap length c.as_slice-rules.ensures)) c.loop-rule.invariant
