@@ -1,4 +1,10 @@
+pub mod Laws
 pub mod Limit
+pub mod Literals
+pub mod Operands
+pub mod Operations
 pub mod Outside
 pub mod Runs
+pub mod Stops
+pub mod Values
 pub mod Words

@@ -1,4 +1,4 @@
-use crate::{List, Words};
+use crate::{ErrKind, List, Op, Words};
 use std::test::Fail;
 
 #[test]
@@ -16,5 +16,15 @@ fn calls_succeed(rt: HostRuntime) -> Result<(), Fail> {
     bytes.push(2)?;
     bytes.extend_from_slice(&[3, 4])?;
     assert_eq!(rt; bytes.as_slice(), [1u8, 2, 3, 4].as_slice());
+    Ok(())
+}
+
+#[test]
+fn operations_have_their_names_and_counts(rt: HostRuntime) -> Result<(), Fail> {
+    assert_eq!(rt; Op::Eqv.name(), "%eqv?");
+    assert_eq!(rt; Op::CallCC.name(), "%call/cc");
+    assert_eq!(rt; Op::ReadChar.operands(), 0);
+    assert_eq!(rt; Op::VectorSet.operands(), 3);
+    assert_eq!(rt; ErrKind::ZeroDivisor.number(), 7);
     Ok(())
 }
