@@ -1,0 +1,4 @@
+pub mod Laws
+pub mod Source
+pub mod Trees
+pub mod Variables

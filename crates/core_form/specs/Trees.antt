@@ -1,0 +1,66 @@
+-- Expressions as trees, and which tree the number of an expression stands for.
+--
+-- V is what variables are: names, or names and numbers in a renamed core.
+use Rattle.std.specs.Prelude.{ℕ, suc, ◌≡◌, List, [], ◌∷◌, Option, Some, slice_get}
+use Rattle.scheme_base.specs.declared.pos.Pos.{Pos}
+use Rattle.scheme_base.specs.declared.op.Op.{Op}
+use Rattle.core_form.specs.declared.program.Node.{Node}
+use Rattle.core_form.specs.declared.program.Program.{Program}
+use Rattle.core_form.specs.declared.program.Form.{Form}
+use Rattle.core_form.specs.declared.program.Form.TheVariants as form
+
+mutual
+  pub data Tree (V : Type 0) : Type 0 where
+    Const : Pos → (lit : ℕ) → Tree V
+    Ref : Pos → V → Tree V
+    Lambda : Pos → (params : List V) → (rest : Option V) → (body : Tree V) → Tree V
+    If : Pos → (test yes no : Tree V) → Tree V
+    Set : Pos → V → (value : Tree V) → Tree V
+    Call : Pos → (operator : Tree V) → (operands : Trees V) → Tree V
+    Prim : Pos → Op → (operands : Trees V) → Tree V
+    Seq : Pos → (items : Trees V) → Tree V
+    Fix : Pos → (vars : List V) → (lambdas : Trees V) → (body : Tree V) → Tree V
+    Define : Pos → V → (value : Tree V) → Tree V
+
+  pub data Trees (V : Type 0) : Type 0 where
+    none : Trees V
+    item : Tree V → Trees V → Trees V
+
+abbrev pub count : {V : Type 0} → Trees V → ℕ
+count none = 0
+count (item e es) = suc (count es)
+
+-- the expression of this number is this
+abbrev pub IsNode : {V : Type 0} → List (Node V) → ℕ → Form V → Pos → Type 0
+IsNode exprs id what p = slice_get exprs id ≡ Some (record { what = what; pos = p })
+
+abbrev mutual
+  -- the number stands for the tree. So it names an expression, and nothing in it contains itself.
+  pub Stands : {V : Type 0} → List (Node V) → ℕ → Tree V → Type 0
+  Stands exprs id (Const p lit) = IsNode exprs id (form.Const lit) p
+  Stands exprs id (Ref p x) = IsNode exprs id (form.Ref x) p
+  Stands exprs id (Lambda p xs rest e) =
+      (body : ℕ) × IsNode exprs id (form.Lambda xs rest body) p × Stands exprs body e
+  Stands exprs id (If p t y n) =
+      (test : ℕ) × (yes : ℕ) × (no : ℕ) × IsNode exprs id (form.If test yes no) p × Stands exprs test t
+      × Stands exprs yes y × Stands exprs no n
+  Stands exprs id (Set p x e) = (value : ℕ) × IsNode exprs id (form.Set x value) p × Stands exprs value e
+  Stands exprs id (Call p f es) =
+      (operator : ℕ) × (operands : List ℕ) × IsNode exprs id (form.Call operator operands) p
+      × Stands exprs operator f × StandAll exprs operands es
+  Stands exprs id (Prim p o es) =
+      (operands : List ℕ) × IsNode exprs id (form.Prim o operands) p × StandAll exprs operands es
+  Stands exprs id (Seq p es) = (items : List ℕ) × IsNode exprs id (form.Seq items) p × StandAll exprs items es
+  Stands exprs id (Fix p xs ls e) =
+      (lambdas : List ℕ) × (body : ℕ) × IsNode exprs id (form.Fix xs lambdas body) p × StandAll exprs lambdas ls
+      × Stands exprs body e
+  Stands exprs id (Define p x e) = (value : ℕ) × IsNode exprs id (form.Define x value) p × Stands exprs value e
+
+  pub StandAll : {V : Type 0} → List (Node V) → List ℕ → Trees V → Type 0
+  StandAll exprs ids none = ids ≡ []
+  StandAll exprs ids (item e es) =
+      (first : ℕ) × (others : List ℕ) × (ids ≡ first ∷ others) × Stands exprs first e × StandAll exprs others es
+
+-- the forms of a program are these
+abbrev pub Holds : {V : Type 0} → Program V → Trees V → Type 0
+Holds program forms = StandAll program.exprs program.forms forms
