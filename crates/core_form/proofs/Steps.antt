@@ -54,9 +54,9 @@ outline_changed {P = P} ts n c (Some t) e =
     map-set_same outline ts n (plain_change c t) t
     (same_outline t ∙ ap outline (sym (get_or_from_slice_get ts n t t e)))
   where
-  same_outline : (u : Thing P) → outline (plain_change c u) ≡ outline u
-  same_outline (Datum o d) = refl
-  same_outline (Procedure f) = refl
+    same_outline : (u : Thing P) → outline (plain_change c u) ≡ outline u
+    same_outline (Datum o d) = refl
+    same_outline (Procedure f) = refl
 
 keeps_stable : {V : Type 0} (before : World V) → Stable (Keeps before)
 keeps_stable before =

@@ -1,4 +1,6 @@
 pub mod Laws
+pub mod Pieces
 pub mod Source
+pub mod Text
 pub mod Trees
 pub mod Variables

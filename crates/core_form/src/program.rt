@@ -29,15 +29,30 @@ pub enum Form<V> {
         body: u32,
     },
     /// A conditional with both arms (R4RS 4.1.5).
-    If { test: u32, yes: u32, no: u32 },
+    If {
+        test: u32,
+        yes: u32,
+        no: u32,
+    },
     /// An assignment (R4RS 4.1.6).
-    Set { var: V, value: u32 },
+    Set {
+        var: V,
+        value: u32,
+    },
     /// A procedure call (R4RS 4.1.3).
-    Call { operator: u32, operands: Ids },
+    Call {
+        operator: u32,
+        operands: Ids,
+    },
     /// A primitive operation.
-    Prim { op: Op, operands: Ids },
+    Prim {
+        op: Op,
+        operands: Ids,
+    },
     /// A sequence (R4RS 4.2.3).
-    Seq { items: Ids },
+    Seq {
+        items: Ids,
+    },
     /// Procedures that know each other, as a `letrec` of lambda expressions (R4RS 4.2.2).
     Fix {
         vars: List<V>,
@@ -45,7 +60,10 @@ pub enum Form<V> {
         body: u32,
     },
     /// A definition (R4RS 5.2), which is a form of the program.
-    Define { var: V, value: u32 },
+    Define {
+        var: V,
+        value: u32,
+    },
 }
 
 /// An expression, with the place that its errors name.

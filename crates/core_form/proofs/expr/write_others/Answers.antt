@@ -1,0 +1,27 @@
+use Rattle.std.proofs.Common.{rules, ◌≡◌, ◌++◌, ◌∷◌, [], refl, sym, arith, append-nil}
+use Rattle.core_form.specs.declared.piece.Piece.TheVariants.{Expr, Rest}
+use Rattle.core_form.proofs.Writing.{rest_ends, rest_goes}
+use Rattle.core_form.proofs.expr.write_others.Goals as goal
+
+pub returns-in_ok-push-in-None : goal.returns-in_ok-push-in-None
+returns-in_ok-push-in-None c =
+    record {
+      written = 41 ∷ [];
+      left = [];
+      text = search rules;
+      stack = sym (append-nil _);
+      few = omega arith;
+      whole = λ t rest h. rest_ends c.args.core.now c.args.exprs.now t rest c.in-None.ensures.cases h;
+    }
+
+pub returns-in_ok-extend_from_slice-in-Some : goal.returns-in_ok-extend_from_slice-in-Some
+returns-in_ok-extend_from_slice-in-Some c =
+    record {
+      written = 32 ∷ [];
+      left = Rest c.in-Some.others ∷ Expr c.in-Some.first.now ∷ [];
+      text = search rules;
+      stack = search rules;
+      few = omega arith;
+      whole = λ t rest h.
+          rest_goes c.args.core.now c.args.exprs.now t rest c.in-Some.first.now c.in-Some.others (search rules) h;
+    }

@@ -1,0 +1,119 @@
+ghost use Rattle.std.specs.Prelude.{◌≡◌, ◌++◌, ◌∷◌, [], List, ℕ, OnOk};
+ghost use Rattle.core_form.specs.declared.piece.Piece.TheVariants.{Literal, Tail, More};
+ghost use Rattle.core_form.specs.Text.{characters, letter_text};
+ghost use Rattle.core_form.specs.Pieces.{PieceText, Writes};
+
+use crate::Core;
+use crate::piece::Piece;
+use itoa::Buffer;
+use scheme_base::Lit;
+use std::alloc::AllocError;
+
+/// Writes how a literal begins, and leaves its parts.
+pub(crate) fn write_literal<'a>(
+    core: &'a Core,
+    lit: u32,
+    stack: &mut Vec<Piece<'a>>,
+    text: &mut Vec<u8>,
+) -> Result<(), AllocError>
+    requires { (t : List ℕ) × PieceText core.now (Literal lit) t }
+    ensures { OnOk result (Writes core.now (Literal lit) stack.old.items stack.new.items text.old.items text.new.items) }
+{
+    match &core.lits.as_slice()[lit as usize] {
+        Lit::Integer(value) => text.extend_from_slice(Buffer::new().format(*value).as_bytes())?,
+        Lit::Boolean(true) => text.extend_from_slice(b"#t")?,
+        Lit::Boolean(false) => text.extend_from_slice(b"#f")?,
+        Lit::Char(byte) => write_letter(*byte, text)?,
+        Lit::Nil => text.extend_from_slice(b"()")?,
+        Lit::Unspecified => text.extend_from_slice(b"#<unspecified>")?,
+        Lit::Undefined => text.extend_from_slice(b"#<undefined>")?,
+        Lit::Symbol(name) => text.extend_from_slice(name.as_slice())?,
+        Lit::Text(bytes) => write_string(bytes.as_slice(), text)?,
+        Lit::Pair(car, cdr) => {
+            text.push(b'(')?;
+            stack.extend_from_slice(&[Piece::Tail(*cdr), Piece::Literal(*car)])?;
+        }
+        Lit::Vector(items) => {
+            text.extend_from_slice(b"#(")?;
+            match items.as_slice().split_first() {
+                None => text.push(b')')?,
+                Some((first, others)) => {
+                    stack.extend_from_slice(&[Piece::More(others), Piece::Literal(*first)])?
+                }
+            }
+        }
+    }
+    Ok(())
+}
+
+/// Writes what follows an item of a literal list: the next item, the end, or a dot and a last datum.
+pub(crate) fn write_tail<'a>(
+    core: &'a Core,
+    lit: u32,
+    stack: &mut Vec<Piece<'a>>,
+    text: &mut Vec<u8>,
+) -> Result<(), AllocError>
+    requires { (t : List ℕ) × PieceText core.now (Tail lit) t }
+    ensures { OnOk result (Writes core.now (Tail lit) stack.old.items stack.new.items text.old.items text.new.items) }
+{
+    match &core.lits.as_slice()[lit as usize] {
+        Lit::Nil => text.push(b')')?,
+        Lit::Pair(car, cdr) => {
+            text.push(b' ')?;
+            stack.extend_from_slice(&[Piece::Tail(*cdr), Piece::Literal(*car)])?;
+        }
+        _ => {
+            text.extend_from_slice(b" . ")?;
+            stack.extend_from_slice(&[Piece::Close, Piece::Literal(lit)])?;
+        }
+    }
+    Ok(())
+}
+
+/// Writes a space before the next item of a literal vector, or its end.
+pub(crate) fn write_more<'a>(
+    core: &'a Core,
+    lits: &'a [u32],
+    stack: &mut Vec<Piece<'a>>,
+    text: &mut Vec<u8>,
+) -> Result<(), AllocError>
+    ensures { OnOk result (Writes core.now (More lits.entry) stack.old.items stack.new.items text.old.items text.new.items) }
+{
+    match lits.split_first() {
+        None => text.push(b')')?,
+        Some((first, others)) => {
+            text.push(b' ')?;
+            stack.extend_from_slice(&[Piece::More(others), Piece::Literal(*first)])?;
+        }
+    }
+    Ok(())
+}
+
+/// Writes a character.
+fn write_letter(byte: u8, text: &mut Vec<u8>) -> Result<(), AllocError>
+    ensures { OnOk result (text.new.items ≡ text.old.items ++ letter_text byte) }
+{
+    match byte {
+        b' ' => text.extend_from_slice(b"#\\space")?,
+        b'\n' => text.extend_from_slice(b"#\\newline")?,
+        _ => text.extend_from_slice(&[b'#', b'\\', byte])?,
+    }
+    Ok(())
+}
+
+/// Writes a string with its quotes and escapes.
+fn write_string(bytes: &[u8], text: &mut Vec<u8>) -> Result<(), AllocError>
+    ensures { OnOk result (text.new.items ≡ text.old.items ++ 34 ∷ characters bytes.now) }
+{
+    text.push(b'"')?;
+    let mut rest = bytes;
+    while let Some((byte, others)) = rest.split_first() {
+        if *byte == b'"' || *byte == b'\\' {
+            text.push(b'\\')?;
+        }
+        text.push(*byte)?;
+        rest = others;
+    }
+    text.push(b'"')?;
+    Ok(())
+}
