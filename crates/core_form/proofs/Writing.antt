@@ -16,7 +16,7 @@ use Rattle.core_form.specs.declared.program.Form.TheVariants as form
 use Rattle.core_form.specs.declared.piece.Piece.{Piece}
 use Rattle.core_form.specs.declared.piece.Piece.TheVariants.{Expr, Next, List as Listed, Rest, Literal, Tail, More, Close}
 use Rattle.core_form.specs.Trees.{Tree, Const, Ref, Lambda, If, Set, Call, Prim, Seq, Fix, Define, Trees, none, item, Stands, StandAll}
-use Rattle.core_form.specs.Text.{constant_text, tail_text, items_text, more_text, atom_text, dotted, letter_text, characters, IsLiteralText, var_text, vars_text, rest_text, IsText, IsListText, IsRestText}
+use Rattle.core_form.specs.Text.{constant_text, tail_text, items_text, more_text, atom_text, dotted, letter_text, truth_text, characters, IsLiteralText, var_text, vars_text, rest_text, IsText, IsListText, IsRestText}
 use Rattle.core_form.specs.Pieces.{ExprText, RestText, PieceText, StackText, Writes, LinesText}
 
 same_some : {A : Type 0} (o : Option A) (x y : A) → o ≡ Some x → o ≡ Some y → x ≡ y
@@ -125,12 +125,11 @@ spaced core id u h = (u, h, refl)
 
 pub const_goes : (core : Program Var) (l : ℕ) (t rest : List ℕ) → PartsText core (form.Const l) t
     → GoesOn core (codes "(const ") (Close ∷ Literal l ∷ []) t rest
-const_goes core l t rest h =
-    (
-      h.0 ++ (41 ∷ rest),
-      (41 ∷ [], refl, (h.0, h.1, refl)),
-      ap (λ x. x ++ rest) h.2 ∙ simp (append_assoc) refl,
-    )
+const_goes core l t rest h = (
+  h.0 ++ (41 ∷ rest),
+  (41 ∷ [], refl, (h.0, h.1, refl)),
+  ap (λ x. x ++ rest) h.2 ∙ simp (append_assoc) refl,
+)
 
 pub ref_goes : (core : Program Var) (x : Var) (t rest : List ℕ) → PartsText core (form.Ref x) t
     → GoesOn core (codes "(ref " ++ (var_text x ++ codes ")")) [] t rest
@@ -139,20 +138,18 @@ ref_goes core x t rest h = (rest, refl, ap (λ y. y ++ rest) h)
 pub lambda_goes : (core : Program Var) (xs : List Var) (r : Option Var) (body : ℕ) (t rest : List ℕ)
     → PartsText core (form.Lambda xs r body) t
     → GoesOn core (codes "(lambda " ++ (vars_text xs ++ (32 ∷ rest_text r))) (Close ∷ Next body ∷ []) t rest
-lambda_goes core xs r body t rest h =
-    (
-      32 ∷ h.0 ++ (41 ∷ rest),
-      (41 ∷ [], refl, (32 ∷ h.0, spaced core body h.0 h.1, refl)),
-      ap (λ x. x ++ rest) h.2 ∙ simp (append_assoc) refl,
-    )
+lambda_goes core xs r body t rest h = (
+  32 ∷ h.0 ++ (41 ∷ rest),
+  (41 ∷ [], refl, (32 ∷ h.0, spaced core body h.0 h.1, refl)),
+  ap (λ x. x ++ rest) h.2 ∙ simp (append_assoc) refl,
+)
 
 pub if_goes : (core : Program Var) (a b d : ℕ) (t rest : List ℕ) → PartsText core (form.If a b d) t
     → GoesOn core (codes "(if") (Close ∷ Next d ∷ Next b ∷ Next a ∷ []) t rest
 if_goes core a b d t rest h =
     let u = h.0 in
     let v = h.1 in
-    let w = h.2 in
-    (
+    let w = h.2 in (
       32 ∷ u ++ (32 ∷ v ++ (32 ∷ w ++ (41 ∷ rest))),
       (
         41 ∷ [],
@@ -164,21 +161,19 @@ if_goes core a b d t rest h =
 
 pub set_goes : (core : Program Var) (x : Var) (a : ℕ) (t rest : List ℕ) → PartsText core (form.Set x a) t
     → GoesOn core (codes "(set " ++ var_text x) (Close ∷ Next a ∷ []) t rest
-set_goes core x a t rest h =
-    (
-      32 ∷ h.0 ++ (41 ∷ rest),
-      (41 ∷ [], refl, (32 ∷ h.0, spaced core a h.0 h.1, refl)),
-      ap (λ y. y ++ rest) h.2 ∙ simp (append_assoc) refl,
-    )
+set_goes core x a t rest h = (
+  32 ∷ h.0 ++ (41 ∷ rest),
+  (41 ∷ [], refl, (32 ∷ h.0, spaced core a h.0 h.1, refl)),
+  ap (λ y. y ++ rest) h.2 ∙ simp (append_assoc) refl,
+)
 
 pub define_goes : (core : Program Var) (x : Var) (a : ℕ) (t rest : List ℕ) → PartsText core (form.Define x a) t
     → GoesOn core (codes "(define " ++ var_text x) (Close ∷ Next a ∷ []) t rest
-define_goes core x a t rest h =
-    (
-      32 ∷ h.0 ++ (41 ∷ rest),
-      (41 ∷ [], refl, (32 ∷ h.0, spaced core a h.0 h.1, refl)),
-      ap (λ y. y ++ rest) h.2 ∙ simp (append_assoc) refl,
-    )
+define_goes core x a t rest h = (
+  32 ∷ h.0 ++ (41 ∷ rest),
+  (41 ∷ [], refl, (32 ∷ h.0, spaced core a h.0 h.1, refl)),
+  ap (λ y. y ++ rest) h.2 ∙ simp (append_assoc) refl,
+)
 
 -- the text of a space and expressions in parentheses
 listed : (core : Program Var) (r : Bor (List ℕ)) (u : List ℕ) → ListText core r.now u → PieceText core (Listed r) (32 ∷ u)
@@ -186,40 +181,36 @@ listed core r u h = (h.0, u, h.1, h.2, refl)
 
 pub call_goes : (core : Program Var) (f : ℕ) (r : Bor (List ℕ)) (t rest : List ℕ) → PartsText core (form.Call f r.now) t
     → GoesOn core (codes "(call") (Close ∷ Listed r ∷ Next f ∷ []) t rest
-call_goes core f r t rest h =
-    (
-      32 ∷ h.0 ++ (32 ∷ h.1 ++ (41 ∷ rest)),
-      (41 ∷ [], refl, (32 ∷ h.1, listed core r h.1 h.3, (32 ∷ h.0, spaced core f h.0 h.2, refl))),
-      ap (λ x. x ++ rest) h.4 ∙ simp (append_assoc) refl,
-    )
+call_goes core f r t rest h = (
+  32 ∷ h.0 ++ (32 ∷ h.1 ++ (41 ∷ rest)),
+  (41 ∷ [], refl, (32 ∷ h.1, listed core r h.1 h.3, (32 ∷ h.0, spaced core f h.0 h.2, refl))),
+  ap (λ x. x ++ rest) h.4 ∙ simp (append_assoc) refl,
+)
 
 pub prim_goes : (core : Program Var) (o : Op) (r : Bor (List ℕ)) (t rest : List ℕ) → PartsText core (form.Prim o r.now) t
     → GoesOn core (codes "(prim " ++ name_of o) (Close ∷ Listed r ∷ []) t rest
-prim_goes core o r t rest h =
-    (
-      32 ∷ h.0 ++ (41 ∷ rest),
-      (41 ∷ [], refl, (32 ∷ h.0, listed core r h.0 h.1, refl)),
-      ap (λ x. x ++ rest) h.2 ∙ simp (append_assoc) refl,
-    )
+prim_goes core o r t rest h = (
+  32 ∷ h.0 ++ (41 ∷ rest),
+  (41 ∷ [], refl, (32 ∷ h.0, listed core r h.0 h.1, refl)),
+  ap (λ x. x ++ rest) h.2 ∙ simp (append_assoc) refl,
+)
 
 pub seq_goes : (core : Program Var) (r : Bor (List ℕ)) (t rest : List ℕ) → PartsText core (form.Seq r.now) t
     → GoesOn core (codes "(seq") (Close ∷ Listed r ∷ []) t rest
-seq_goes core r t rest h =
-    (
-      32 ∷ h.0 ++ (41 ∷ rest),
-      (41 ∷ [], refl, (32 ∷ h.0, listed core r h.0 h.1, refl)),
-      ap (λ x. x ++ rest) h.2 ∙ simp (append_assoc) refl,
-    )
+seq_goes core r t rest h = (
+  32 ∷ h.0 ++ (41 ∷ rest),
+  (41 ∷ [], refl, (32 ∷ h.0, listed core r h.0 h.1, refl)),
+  ap (λ x. x ++ rest) h.2 ∙ simp (append_assoc) refl,
+)
 
 pub fix_goes : (core : Program Var) (xs : List Var) (r : Bor (List ℕ)) (a : ℕ) (t rest : List ℕ)
     → PartsText core (form.Fix xs r.now a) t
     → GoesOn core (codes "(fix " ++ vars_text xs) (Close ∷ Next a ∷ Listed r ∷ []) t rest
-fix_goes core xs r a t rest h =
-    (
-      32 ∷ h.0 ++ (32 ∷ h.1 ++ (41 ∷ rest)),
-      (41 ∷ [], refl, (32 ∷ h.1, spaced core a h.1 h.3, (32 ∷ h.0, listed core r h.0 h.2, refl))),
-      ap (λ x. x ++ rest) h.4 ∙ simp (append_assoc) refl,
-    )
+fix_goes core xs r a t rest h = (
+  32 ∷ h.0 ++ (32 ∷ h.1 ++ (41 ∷ rest)),
+  (41 ∷ [], refl, (32 ∷ h.1, spaced core a h.1 h.3, (32 ∷ h.0, listed core r h.0 h.2, refl))),
+  ap (λ x. x ++ rest) h.4 ∙ simp (append_assoc) refl,
+)
 
 -- Lists of expressions
 
@@ -250,8 +241,7 @@ rest_goes core ids t rest first r e (item f es, s, h) =
     in
     let others : StandAll core.exprs r.now es =
     subst (λ is. StandAll core.exprs is es) (same_tail s.0 first s.1 r.now same) s.4
-    in
-    (
+    in (
       h.0 ++ (h.1 ++ rest),
       (h.1, (es, others, h.3), (h.0, (f, one, h.2), refl)),
       ap (λ x. x ++ rest) h.4 ∙ simp (append_assoc) refl,
@@ -272,8 +262,7 @@ list_goes core l t rest first r e (item f es, u, s, h, k) =
     in
     let others : StandAll core.exprs r.now es =
     subst (λ is. StandAll core.exprs is es) (same_tail s.0 first s.1 r.now same) s.4
-    in
-    (
+    in (
       h.0 ++ (h.1 ++ rest),
       (h.1, (es, others, h.3), (h.0, (f, one, h.2), refl)),
       ap (λ x. x ++ rest) (k ∙ ap (λ y. 32 ∷ y) h.4) ∙ simp (append_assoc) refl,
@@ -291,8 +280,7 @@ close_goes core t rest h = (rest, refl, ap (λ x. x ++ rest) h)
 -- the text of a literal that has no parts
 abbrev pub plain_text : Lit → List ℕ
 plain_text (lit.Integer z) = signed_decimal z
-plain_text (lit.Boolean true) = codes "#t"
-plain_text (lit.Boolean false) = codes "#f"
+plain_text (lit.Boolean b) = truth_text b
 plain_text (lit.Char byte) = letter_text byte
 plain_text lit.Nil = codes "()"
 plain_text lit.Unspecified = codes "#<unspecified>"
@@ -313,9 +301,7 @@ pub lit_parts : (core : Program Var) (id : ℕ) (l : Lit) (t : List ℕ) → sli
     → IsLiteralText core.lits id t → LitText core l t
 lit_parts core id l t got (Number z, j, laid, e) =
     subst (λ k. LitText core k t) (same_some (slice_get core.lits id) _ l laid.0 got) e
-lit_parts core id l t got (Truth true, j, laid, e) =
-    subst (λ k. LitText core k t) (same_some (slice_get core.lits id) _ l laid.0 got) e
-lit_parts core id l t got (Truth false, j, laid, e) =
+lit_parts core id l t got (Truth b, j, laid, e) =
     subst (λ k. LitText core k t) (same_some (slice_get core.lits id) _ l laid.0 got) e
 lit_parts core id l t got (Letter b, j, laid, e) =
     subst (λ k. LitText core k t) (same_some (slice_get core.lits id) _ l laid.0 got) e
@@ -335,17 +321,40 @@ lit_parts core id l t got (Couple a d, j, laid, e) =
 lit_parts core id l t got (Row cs, j, laid, e) =
     subst (λ k. LitText core k t) (same_some (slice_get core.lits id) _ l laid.1 got) (suc id, cs, j, laid.2, e)
 
+lit_within : (core : Program Var) (id : ℕ) (c : Constant) (j : ℕ) → Laid core.lits id c j → id < length core.lits
+lit_within core id (Number z) j laid = slice_get_within core.lits id _ laid.0
+lit_within core id (Truth b) j laid = slice_get_within core.lits id _ laid.0
+lit_within core id (Letter b) j laid = slice_get_within core.lits id _ laid.0
+lit_within core id Empty j laid = slice_get_within core.lits id _ laid.0
+lit_within core id Unnamed j laid = slice_get_within core.lits id _ laid.0
+lit_within core id Hole j laid = slice_get_within core.lits id _ laid.0
+lit_within core id (Name name) j laid = slice_get_within core.lits id _ laid.0
+lit_within core id (Words bytes) j laid = slice_get_within core.lits id _ laid.0
+lit_within core id (Couple a d) j laid = slice_get_within core.lits id _ laid.1
+lit_within core id (Row cs) j laid = slice_get_within core.lits id _ laid.1
+
+-- a literal that was read from the list
+got_lit : (core : Program Var) (lits : List Lit) (id : ℕ) (d l : Lit) → lits ≡ core.lits → d ≡ get_or lits id d → d ≡ l
+    → id < length core.lits → slice_get core.lits id ≡ Some l
+got_lit core lits id d l same is what below =
+    slice_get-get_or core.lits id d below
+    ∙ ap Some (ap (λ xs. get_or xs id d) (sym same) ∙ (sym is ∙ what))
+
+pub lit_read : (core : Program Var) (lits : List Lit) (id : ℕ) (d l : Lit) (t : List ℕ) → lits ≡ core.lits
+    → d ≡ get_or lits id d → d ≡ l → IsLiteralText core.lits id t → LitText core l t
+lit_read core lits id d l t same is what h =
+    lit_parts core id l t (got_lit core lits id d l same is what (lit_within core id h.0 h.1 h.2)) h
+
 pub plain_goes : (core : Program Var) (written t rest : List ℕ) → t ≡ written → GoesOn core written [] t rest
 plain_goes core written t rest h = (rest, refl, ap (λ x. x ++ rest) h)
 
 pub pair_goes : (core : Program Var) (a d : ℕ) (t rest : List ℕ) → LitText core (lit.Pair a d) t
     → GoesOn core (40 ∷ []) (Tail d ∷ Literal a ∷ []) t rest
-pair_goes core a d t rest h =
-    (
-      h.0 ++ (h.1 ++ rest),
-      (h.1, h.3, (h.0, h.2, refl)),
-      ap (λ x. x ++ rest) h.4 ∙ simp (append_assoc) refl,
-    )
+pair_goes core a d t rest h = (
+  h.0 ++ (h.1 ++ rest),
+  (h.1, h.3, (h.0, h.2, refl)),
+  ap (λ x. x ++ rest) h.4 ∙ simp (append_assoc) refl,
+)
 
 pub row_ends : (core : Program Var) (ids t rest : List ℕ) → length ids ≡ 0 → LitText core (lit.Vector ids) t
     → GoesOn core (codes "#()") [] t rest
@@ -362,8 +371,7 @@ row_goes core ids t rest first r e (i, constant c cs, j, all, h) =
     in
     let others : LaidAll core.lits r.now all.1 cs j =
     subst (λ is. LaidAll core.lits is all.1 cs j) (same_tail i first all.0 r.now same) all.4
-    in
-    (
+    in (
       constant_text c ++ (more_text cs ++ rest),
       (more_text cs, (all.1, cs, j, others, refl), (constant_text c, (c, all.1, one, refl), refl)),
       ap (λ x. x ++ rest) h ∙ simp (append_assoc) refl,
@@ -384,8 +392,7 @@ more_goes core l t rest first r e (i, constant c cs, j, all, h) =
     in
     let others : LaidAll core.lits r.now all.1 cs j =
     subst (λ is. LaidAll core.lits is all.1 cs j) (same_tail i first all.0 r.now same) all.4
-    in
-    (
+    in (
       constant_text c ++ (more_text cs ++ rest),
       (more_text cs, (all.1, cs, j, others, refl), (constant_text c, (c, all.1, one, refl), refl)),
       ap (λ x. x ++ rest) h ∙ simp (append_assoc) refl,
@@ -435,23 +442,33 @@ tail_parts core id l t got (Row cs, j, laid, e) =
     subst (λ k. TailText core id k t) (same_some (slice_get core.lits id) _ l laid.1 got)
     (constant_text (Row cs), (Row cs, j, laid, refl), e)
 
+pub tail_read : (core : Program Var) (lits : List Lit) (id : ℕ) (d l : Lit) (t : List ℕ) → lits ≡ core.lits
+    → d ≡ get_or lits id d → d ≡ l → PieceText core (Tail id) t → TailText core id l t
+tail_read core lits id d l t same is what h =
+    tail_parts core id l t (got_lit core lits id d l same is what (lit_within core id h.0 h.1 h.2)) h
+
+-- a tail that is no list goes on with a dot
+pub no_list : (core : Program Var) (id : ℕ) (l : Lit) (t : List ℕ) → (l ≡ lit.Nil → ⊥) → ((a d : ℕ) → l ≡ lit.Pair a d → ⊥)
+    → TailText core id l t → DottedText core id t
+no_list core id lit.Nil t nil pair h = absurd (nil refl)
+no_list core id (lit.Pair a d) t nil pair h = absurd (pair a d refl)
+no_list core id l t nil pair h = h
+
 pub tail_goes : (core : Program Var) (id a d : ℕ) (t rest : List ℕ) → TailText core id (lit.Pair a d) t
     → GoesOn core (32 ∷ []) (Tail d ∷ Literal a ∷ []) t rest
-tail_goes core id a d t rest h =
-    (
-      h.0 ++ (h.1 ++ rest),
-      (h.1, h.3, (h.0, h.2, refl)),
-      ap (λ x. x ++ rest) h.4 ∙ simp (append_assoc) refl,
-    )
+tail_goes core id a d t rest h = (
+  h.0 ++ (h.1 ++ rest),
+  (h.1, h.3, (h.0, h.2, refl)),
+  ap (λ x. x ++ rest) h.4 ∙ simp (append_assoc) refl,
+)
 
 pub dotted_goes : (core : Program Var) (id : ℕ) (t rest : List ℕ) → DottedText core id t
     → GoesOn core (codes " . ") (Close ∷ Literal id ∷ []) t rest
-dotted_goes core id t rest h =
-    (
-      h.0 ++ (41 ∷ rest),
-      (41 ∷ [], refl, (h.0, h.1, refl)),
-      ap (λ x. x ++ rest) h.2 ∙ simp (append_assoc) refl,
-    )
+dotted_goes core id t rest h = (
+  h.0 ++ (41 ∷ rest),
+  (41 ∷ [], refl, (h.0, h.1, refl)),
+  ap (λ x. x ++ rest) h.2 ∙ simp (append_assoc) refl,
+)
 
 -- Stacks
 
@@ -484,10 +501,9 @@ turn core stack after piece before now whole h writes =
     let goes = writes.whole u m parted.2.1 in
     let joined : StackText core (stack ++ writes.left) [] goes.0 =
     join core stack writes.left [] m goes.0 parted.1 goes.1
-    in
-    (
+    in (
       goes.0,
       subst (λ ps. StackText core ps [] goes.0) (sym writes.stack) joined,
       h.2 ∙ (ap (λ x. before ++ x) (parted.2.2 ∙ goes.2)
-      ∙ (sym (append_assoc before writes.written goes.0) ∙ ap (λ x. x ++ goes.0) (sym writes.text))),
+          ∙ (sym (append_assoc before writes.written goes.0) ∙ ap (λ x. x ++ goes.0) (sym writes.text))),
     )

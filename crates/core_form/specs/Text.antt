@@ -14,6 +14,10 @@ use Rattle.core_form.specs.Trees.{Tree, Const, Ref, Lambda, If, Set, Call, Prim,
 
 -- Constants
 
+abbrev pub truth_text : Bool → List ℕ
+truth_text true = codes "#t"
+truth_text false = codes "#f"
+
 abbrev pub letter_text : ℕ → List ℕ
 letter_text byte =
     if nat_eq byte 32 then codes "#\\space"
@@ -27,8 +31,7 @@ characters (b ∷ bytes) =
 
 abbrev pub atom_text : Constant → List ℕ
 atom_text (Number z) = signed_decimal z
-atom_text (Truth true) = codes "#t"
-atom_text (Truth false) = codes "#f"
+atom_text (Truth b) = truth_text b
 atom_text (Letter byte) = letter_text byte
 atom_text Empty = codes "()"
 atom_text Unnamed = codes "#<unspecified>"

@@ -1,6 +1,7 @@
 ghost use Rattle.std.specs.Prelude.{◌≡◌, ◌++◌, ◌∷◌, [], List, ℕ, OnOk};
+ghost use Rattle.std.specs.Fmt.{signed_decimal};
 ghost use Rattle.core_form.specs.declared.piece.Piece.TheVariants.{Literal, Tail, More};
-ghost use Rattle.core_form.specs.Text.{characters, letter_text};
+ghost use Rattle.core_form.specs.Text.{characters, letter_text, truth_text};
 ghost use Rattle.core_form.specs.Pieces.{PieceText, Writes};
 
 use crate::Core;
@@ -20,9 +21,8 @@ pub(crate) fn write_literal<'a>(
     ensures { OnOk result (Writes core.now (Literal lit) stack.old.items stack.new.items text.old.items text.new.items) }
 {
     match &core.lits.as_slice()[lit as usize] {
-        Lit::Integer(value) => text.extend_from_slice(Buffer::new().format(*value).as_bytes())?,
-        Lit::Boolean(true) => text.extend_from_slice(b"#t")?,
-        Lit::Boolean(false) => text.extend_from_slice(b"#f")?,
+        Lit::Integer(value) => write_integer(*value, text)?,
+        Lit::Boolean(value) => write_boolean(*value, text)?,
         Lit::Char(byte) => write_letter(*byte, text)?,
         Lit::Nil => text.extend_from_slice(b"()")?,
         Lit::Unspecified => text.extend_from_slice(b"#<unspecified>")?,
@@ -86,6 +86,27 @@ pub(crate) fn write_more<'a>(
             stack.extend_from_slice(&[Piece::More(others), Piece::Literal(*first)])?;
         }
     }
+    Ok(())
+}
+
+/// Writes a boolean.
+fn write_boolean(value: bool, text: &mut Vec<u8>) -> Result<(), AllocError>
+    ensures { OnOk result (text.new.items ≡ text.old.items ++ truth_text value) }
+{
+    if value {
+        text.extend_from_slice(b"#t")?;
+    } else {
+        text.extend_from_slice(b"#f")?;
+    }
+    Ok(())
+}
+
+/// Writes a whole number in decimal.
+fn write_integer(value: i64, text: &mut Vec<u8>) -> Result<(), AllocError>
+    ensures { OnOk result (text.new.items ≡ text.old.items ++ signed_decimal value) }
+{
+    let mut buffer = Buffer::new();
+    text.extend_from_slice(buffer.format(value).as_bytes())?;
     Ok(())
 }
 
