@@ -1,5 +1,5 @@
 -- How a piece's text begins, and which pieces are left of it: piece by piece.
-use Rattle.std.proofs.Common.{◌≡◌, ℕ, suc, ◌*◌, ◌<◌, ◌≤◌, List, [], ◌∷◌, ◌++◌, length, Option, Some, None, Bool, true, false, refl, sym, ap, subst, ◌∙◌, arith, append_assoc, append-nil, Bor}
+use Rattle.std.proofs.Common.{◌≡◌, ℕ, suc, ◌+◌, ◌-◌, ◌*◌, ◌^◌, length-append, ◌<◌, ◌≤◌, List, [], ◌∷◌, ◌++◌, length, Option, Some, None, Bool, true, false, refl, sym, ap, subst, ◌∙◌, arith, append_assoc, append-nil, Bor}
 use Rattle.std.specs.Prelude.{slice_get, codes, get_or}
 use Rattle.std.proofs.lemmas.Option.{slice_get_within, slice_get-get_or}
 use Rattle.std.specs.Fmt.{signed_decimal}
@@ -223,7 +223,7 @@ same_head x y xs ys e = cc
 same_tail : {A : Type 0} (x y : A) (xs ys : List A) → x ∷ xs ≡ y ∷ ys → xs ≡ ys
 same_tail x y xs ys e = cc
 
-empty : {A : Type 0} (xs : List A) → length xs ≡ 0 → xs ≡ []
+pub empty : {A : Type 0} (xs : List A) → length xs ≡ 0 → xs ≡ []
 empty [] e = refl
 empty (x ∷ xs) e = absurd (omega (arith, e))
 
@@ -507,3 +507,58 @@ turn core stack after piece before now whole h writes =
       h.2 ∙ (ap (λ x. before ++ x) (parted.2.2 ∙ goes.2)
           ∙ (sym (append_assoc before writes.written goes.0) ∙ ap (λ x. x ++ goes.0) (sym writes.text))),
     )
+
+-- what is left gets less with each piece, as long as a text has its length in 64 bits
+pub shrinks : (core : Program Var) (stack after : List Piece) (piece : Piece) (before now : List ℕ)
+    → Writes core piece stack after before now → length now < 2 ^ 64
+    → 8 * (2 ^ 64 - length now) + length after < 8 * (2 ^ 64 - length before) + length (stack ++ piece ∷ [])
+shrinks core stack after piece before now writes fits =
+    let one : length now ≡ length before + length writes.written =
+    ap length writes.text ∙ length-append before writes.written
+    in
+    let two : length after ≡ length stack + length writes.left =
+    ap length writes.stack ∙ length-append stack writes.left
+    in
+    let three : length (stack ++ piece ∷ []) ≡ length stack + 1 = length-append stack (piece ∷ []) in
+    omega (arith, one, two, three, fits, writes.few)
+
+pub finished : (core : Program Var) (stack : List Piece) (written whole : List ℕ) → stack ≡ [] → Left core stack written whole
+    → written ≡ whole
+finished core stack written whole none_left h =
+    let rest : h.0 ≡ [] = subst (λ s. StackText core s [] h.0) none_left h.1 in
+    sym (h.2 ∙ (ap (λ x. written ++ x) rest ∙ append-nil written))
+
+pub begun : (core : Program Var) (stack : List Piece) (form : ℕ) (written t : List ℕ) → stack ≡ Expr form ∷ []
+    → ExprText core form t → Left core stack written (written ++ t)
+begun core stack form written t one h =
+    (t, subst (λ s. StackText core s [] t) (sym one) (t, h, sym (append-nil t)), refl)
+
+-- Lines
+
+pub one_line : (core : Program Var) (ids others : List ℕ) (first : ℕ) (v : List ℕ) → ids ≡ first ∷ others → LinesText core ids v
+    → (u w : List ℕ) × ExprText core first u × LinesText core others w × (v ≡ u ++ 10 ∷ w)
+one_line core ids others first v e (none, s, h) = absurd (nothing first others (sym s ∙ e))
+one_line core ids others first v e (item f es, s, h) =
+    let same = sym s.2 ∙ e in
+    let one : Stands core.exprs first f =
+    subst (λ i. Stands core.exprs i f) (same_head s.0 first s.1 others same) s.3
+    in
+    let more : StandAll core.exprs others es =
+    subst (λ is. StandAll core.exprs is es) (same_tail s.0 first s.1 others same) s.4
+    in
+    (h.0, h.1, (f, one, h.2), (es, more, h.3), h.4)
+
+pub no_line : (core : Program Var) (ids v : List ℕ) → length ids ≡ 0 → LinesText core ids v → v ≡ []
+no_line core ids v e (none, s, h) = h
+no_line core ids v e (item f es, s, h) = absurd (nothing s.0 s.1 (sym (empty ids e) ∙ s.2))
+
+pub line_after : (core : Program Var) (ids others : List ℕ) (first : ℕ) (before mid now t v : List ℕ) → ids ≡ first ∷ others
+    → ((u : List ℕ) → ExprText core first u → mid ≡ before ++ u) → now ≡ mid ++ 10 ∷ []
+    → LinesText core ids v → t ≡ before ++ v → (w : List ℕ) × LinesText core others w × (t ≡ now ++ w)
+line_after core ids others first before mid now t v e wrote ended lines whole =
+    let line = one_line core ids others first v e lines in
+    let u = line.0 in
+    let w = line.1 in
+    let all : now ≡ before ++ (u ++ 10 ∷ []) = both before mid now u (10 ∷ []) (wrote u line.2) ended in
+    let text : (before ++ (u ++ 10 ∷ [])) ++ w ≡ before ++ (u ++ 10 ∷ w) = simp (append_assoc) refl in
+    (w, line.3, whole ∙ (ap (λ x. before ++ x) line.4 ∙ (sym text ∙ ap (λ x. x ++ w) (sym all))))
