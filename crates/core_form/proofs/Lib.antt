@@ -1,4 +1,5 @@
 mod Examples
 pub mod Steps
+mod Texts
 pub mod Worlds
 pub mod Writing

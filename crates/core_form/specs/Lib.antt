@@ -3,4 +3,5 @@ pub mod Pieces
 pub mod Source
 pub mod Text
 pub mod Trees
+pub mod Valid
 pub mod Variables

@@ -6,6 +6,8 @@ mod law;
 mod literal;
 mod piece;
 mod program;
+#[cfg(test)]
+mod tests;
 mod text;
 mod vars;
 
