@@ -1,0 +1,3 @@
+pub mod Gifts
+pub mod Others
+pub mod Steps

@@ -1,0 +1,10 @@
+//! The workers that solve flow constraints together, by rounds over one shared table.
+//!
+//! In a round each worker draws blocks of rules and does them: it loads the words that the rules read,
+//! by single atomic loads, and grows those that they give to. No worker waits for another. `specs/Steps`
+//! says what a pass has after such steps, `specs/Rounds` what a round gives and what is solved. Whatever
+//! the number of workers, the gate and the schedule, the rows that `solve` answers are the least solution.
+#![tactic(auto)]
+
+mod rule;
+mod step;

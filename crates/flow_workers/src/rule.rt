@@ -1,0 +1,134 @@
+//! What one rule reads and gives, word by word in the shared rows.
+ghost use Rattle.std.specs.Prelude.{◌≡◌, ◌≢◌, ℕ, ◌+◌, ◌*◌, ◌<◌, ◌↔◌, length};
+ghost use Rattle.std.specs.Bool.{MatchBool};
+ghost use Rattle.std.specs.Int.{bit_at};
+ghost use Rattle.flow_form.specs.Least.{TestHolds, Within};
+ghost use Rattle.flow_form.specs.Race.{Seen};
+ghost use Rattle.flow_form.specs.Shape.{In};
+ghost use Rattle.flow_form.specs.Valid.{TestNames};
+ghost use Rattle.flow_form.specs.declared.rule.Give.TheVariants.{Row};
+ghost use Rattle.flow_plain.specs.Rules.{GivesTo};
+ghost use Rattle.type_table.specs.Tables.{IsOf};
+ghost use Rattle.flow_workers.specs.Steps.{GivenAt, HoldsIn, IsListed, Steps};
+
+use crate::step::{load, set};
+use flow_form::{Constraints, Give, Rule, Test};
+use type_table::{Pass, TypeTable};
+
+/// Whether a row has an atom.
+fn has(c: &Constraints, table: &TypeTable, pass: &mut Pass, row: u32, atom: u32) -> bool
+    requires opened { table.now.constraints ≡ c.now }
+    requires of { IsOf pass.old table.now }
+    requires row { row < c.now.rows }
+    requires atom { atom < c.now.atoms }
+    ensures steps { Steps c.now table.now pass.old pass.new }
+    ensures tells { MatchBool result (In c.now pass.new.view.worker.loaded row atom) (¬ In c.now table.now.base row atom) }
+{
+    let word = load(c, table, pass, row * c.stride() + atom / 64);
+    bit_is_set(word, atom % 64)
+}
+
+/// Whether a bit of a word is set.
+fn bit_is_set(word: u64, bit: u32) -> bool
+    requires { bit < 64 }
+    ensures { MatchBool result (bit_at word bit ≡ 1) (bit_at word bit ≡ 0) }
+{
+    (word >> bit) & 1 == 1
+}
+
+/// Whether a row has another atom than this one.
+fn has_other(c: &Constraints, table: &TypeTable, pass: &mut Pass, row: u32, atom: u32) -> bool
+    requires opened { table.now.constraints ≡ c.now }
+    requires of { IsOf pass.old table.now }
+    requires row { row < c.now.rows }
+    ensures steps { Steps c.now table.now pass.old pass.new }
+    ensures tells { MatchBool result ((other : ℕ) × (other ≢ atom) × In c.now pass.new.view.worker.loaded row other) (¬ ((other : ℕ) × (other ≢ atom) × In c.now table.now.base row other)) }
+{
+    let stride = c.stride();
+    for at in 0..stride {
+        let word = load(c, table, pass, row * stride + at);
+        if others_of(word, at, atom) != 0 {
+            return true;
+        }
+    }
+    false
+}
+
+/// The bits of word `at` of a row, but that of the atom.
+fn others_of(word: u64, at: u32, atom: u32) -> u64
+    ensures { (bit : ℕ) → bit < 64 → (bit_at result bit ≡ 1) ↔ ((64 * at + bit ≢ atom) × (bit_at word bit ≡ 1)) }
+{
+    if at == atom / 64 {
+        word & !(1 << (atom % 64))
+    } else {
+        word
+    }
+}
+
+/// Whether a test holds: where it does, it holds in what the pass has loaded, and where not, it does
+/// not hold in the base.
+fn test_holds(c: &Constraints, table: &TypeTable, pass: &mut Pass, test: Option<Test>) -> bool
+    requires opened { table.now.constraints ≡ c.now }
+    requires of { IsOf pass.old table.now }
+    requires named { TestNames c.now.rows c.now.atoms test }
+    ensures steps { Steps c.now table.now pass.old pass.new }
+    ensures tells { MatchBool result (TestHolds (In c.now pass.new.view.worker.loaded) test) (¬ TestHolds (In c.now table.now.base) test) }
+{
+    match test {
+        None => true,
+        Some(Test::Has { row, atom }) => has(c, table, pass, row, atom),
+        Some(Test::Other { row, atom }) => has_other(c, table, pass, row, atom),
+    }
+}
+
+/// Does what a rule says: the pass has then seen all that the rule gives from the base.
+pub(crate) fn apply(c: &Constraints, table: &TypeTable, pass: &mut Pass, index: usize)
+    requires opened { table.now.constraints ≡ c.now }
+    requires of { IsOf pass.old table.now }
+    requires there { index < length c.now.rules }
+    ensures steps { Steps c.now table.now pass.old pass.new }
+    ensures served { Within (GivenAt c.now.rules index (In c.now table.now.base)) (Seen c.now pass.new.view.worker) }
+{
+    let rule = &c.rules.as_slice()[index];
+    if test_holds(c, table, pass, rule.first) && test_holds(c, table, pass, rule.second) {
+        give(c, table, pass, rule);
+    }
+}
+
+/// Gives what a rule gives whose tests hold.
+fn give(c: &Constraints, table: &TypeTable, pass: &mut Pass, rule: &Rule)
+    requires opened { table.now.constraints ≡ c.now }
+    requires of { IsOf pass.old table.now }
+    requires listed { IsListed c.now rule.now }
+    requires holds { HoldsIn (In c.now pass.old.view.worker.loaded) rule.now }
+    ensures steps { Steps c.now table.now pass.old pass.new }
+    ensures given { Within (GivesTo c.now table.now.base rule.now) (Seen c.now pass.new.view.worker) }
+{
+    match rule.give {
+        Give::Atom(atom) => set(
+            c,
+            table,
+            pass,
+            rule.to * c.stride() + atom / 64,
+            1 << (atom % 64),
+        ),
+        Give::Row(row) => give_row(c, table, pass, rule, row),
+    }
+}
+
+/// Gives the atoms of a row, whole words at a time.
+fn give_row(c: &Constraints, table: &TypeTable, pass: &mut Pass, rule: &Rule, row: u32)
+    requires opened { table.now.constraints ≡ c.now }
+    requires of { IsOf pass.old table.now }
+    requires listed { IsListed c.now rule.now }
+    requires holds { HoldsIn (In c.now pass.old.view.worker.loaded) rule.now }
+    requires row { rule.now.give ≡ Row row }
+    ensures steps { Steps c.now table.now pass.old pass.new }
+    ensures given { Within (GivesTo c.now table.now.base rule.now) (Seen c.now pass.new.view.worker) }
+{
+    let stride = c.stride();
+    for at in 0..stride {
+        let found = load(c, table, pass, row * stride + at);
+        set(c, table, pass, rule.to * stride + at, found);
+    }
+}
