@@ -17,5 +17,5 @@ mod rule;
 pub use constraints::{BLOCK, Constraints, MOST_ATOMS, MOST_ROWS, MOST_RULES, MOST_WORDS};
 pub use event::{Event, Worker};
 pub use laws::{any_schedule, chain_is_bounded, least_is_least};
-pub use rows::{Rows, no_pairs};
+pub use rows::{Rows, no_pairs, row_of};
 pub use rule::{Give, Rule, Rules, Test};

@@ -1,5 +1,6 @@
-ghost use Rattle.std.specs.Prelude.{◌≡◌, replicate, IfOk};
-ghost use Rattle.flow_form.specs.Shape.{HasShape, size_of};
+ghost use Rattle.std.specs.Prelude.{◌≡◌, ℕ, ◌<◌, ◌↔◌, length, replicate, IfOk};
+ghost use Rattle.bit_rows.specs.Members.{IsMember};
+ghost use Rattle.flow_form.specs.Shape.{HasShape, In, size_of, stride_of};
 
 use crate::Constraints;
 use scheme_base::Numbers;
@@ -25,4 +26,16 @@ pub fn no_pairs(alloc: Global, c: &Constraints) -> Result<Rows, AllocError>
         stride: c.stride(),
         words: Numbers::from_vec(words),
     })
+}
+
+/// The words of one row, of those of all rows.
+pub fn row_of<'a>(c: &Constraints, words: &'a [u64], row: u32) -> &'a [u64]
+    requires size { length words.now ≡ size_of c.now }
+    requires there { row < c.now.rows }
+    ensures size { length result.now ≡ stride_of c.now }
+    ensures members { (atom : ℕ) → IsMember result.now atom ↔ In c.now words.now row atom }
+{
+    let stride = c.stride() as usize;
+    let start = row as usize * stride;
+    &words[start..start + stride]
 }

@@ -6,19 +6,7 @@ ghost use Rattle.flow_form.specs.Shape.{In, size_of, stride_of};
 ghost use Rattle.flow_form.specs.Valid.{GiveNames, RuleNames, TestNames};
 
 use bit_rows::{contains, next_member};
-use flow_form::{Constraints, Give, Rule, Test};
-
-/// The words of one row.
-pub(crate) fn row_of<'a>(c: &Constraints, words: &'a [u64], row: u32) -> &'a [u64]
-    requires size { length words.now ≡ size_of c.now }
-    requires there { row < c.now.rows }
-    ensures size { length result.now ≡ stride_of c.now }
-    ensures members { (atom : ℕ) → IsMember result.now atom ↔ In c.now words.now row atom }
-{
-    let stride = c.stride() as usize;
-    let start = row as usize * stride;
-    &words[start..start + stride]
-}
+use flow_form::{Constraints, Give, Rule, Test, row_of};
 
 /// Whether a row has a member other than `atom`.
 fn has_other(row: &[u64], atom: u32) -> bool

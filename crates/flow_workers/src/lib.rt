@@ -6,5 +6,9 @@
 //! the number of workers, the gate and the schedule, the rows that `solve` answers are the least solution.
 #![tactic(auto)]
 
+mod block;
+mod round;
 mod rule;
 mod step;
+
+pub use block::do_block;

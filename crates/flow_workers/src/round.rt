@@ -1,0 +1,134 @@
+//! One round: workers draw blocks until none is left, and what they have done is taken in.
+ghost use Rattle.std.specs.Prelude.{◌≡◌, ◌≤◌, ◌+◌, ◌^◌, ◌<◌, ◌⊎◌, ℕ, length, IfOk, IfSome};
+ghost use Rattle.std.specs.Option.{option_copied};
+ghost use Rattle.std.specs.Thread.{IsSync};
+ghost use Rattle.bit_rows.specs.Members.{IsMember};
+ghost use Rattle.flow_form.specs.Shape.{blocks_of, done_size_of};
+ghost use Rattle.type_table.specs.Tables.{IsOf, base_of, rounds_of};
+ghost use Rattle.flow_workers.specs.Rounds.{AreSettled, IsRound};
+
+use crate::block::do_block;
+use bit_rows::contains;
+use flow_form::Constraints;
+use stalin_outside::Gate;
+use std::alloc::{AllocError, AllocGlobal, Global};
+use std::thread::{Threads, join};
+use type_table::{Closed, Pass, TypeTable};
+
+/// Runs one round from the rows that the last one left, or from no pairs, with so many workers. Blocks
+/// that are settled are skipped.
+pub(crate) fn round<R: AllocGlobal + Threads + Sync, G: Gate>(
+    rt: &R,
+    c: &Constraints,
+    last: Option<&Closed>,
+    settled: &[u64],
+    workers: u32,
+    gate: &G,
+) -> Result<Closed, AllocError>
+    requires of { IfSome (option_copied last) (λ closed. closed.constraints ≡ c.now) }
+    requires few { IfSome (option_copied last) (λ closed. closed.rounds + 1 < 2 ^ 64) }
+    requires size { length settled.now ≡ done_size_of c.now }
+    requires settled { AreSettled c.now (base_of c.now (option_copied last)) settled.now }
+    requires some { 0 < workers }
+    requires most { workers ≤ 32 }
+    ensures { IfOk result (IsRound c.now (base_of c.now (option_copied last.entry)) (rounds_of (option_copied last.entry))) }
+{
+    let (table, pass) = TypeTable::open(rt.alloc(), c, last)?;
+    let mut pass = run(rt, rt.alloc(), c, &table, pass, settled, 0, workers, gate);
+    do_rest(c, &table, &mut pass, settled, gate);
+    Ok(table.close(pass))
+}
+
+/// Lets workers draw blocks side by side: they are numbered from `first`. Where there is no memory for
+/// a further pass, one of them goes on alone.
+fn run<R: Threads + Sync, G: Gate>(
+    rt: &R,
+    alloc: Global,
+    c: &Constraints,
+    table: &TypeTable,
+    mut pass: Pass,
+    settled: &[u64],
+    first: u32,
+    workers: u32,
+    gate: &G,
+) -> Pass
+    requires opened { table.now.constraints ≡ c.now }
+    requires of { IsOf pass table.now }
+    requires size { length settled.now ≡ done_size_of c.now }
+    requires some { 0 < workers }
+    requires most { first + workers ≤ 32 }
+    ensures { IsOf result table.now }
+{
+    if workers == 1 {
+        draw(c, table, &mut pass, settled, first, gate);
+        return pass;
+    }
+    let Ok(second) = table.split(alloc, &mut pass) else {
+        draw(c, table, &mut pass, settled, first, gate);
+        return pass;
+    };
+    let half = workers / 2;
+    let others = workers - half;
+    let (mut one, two) = join(
+        rt,
+        || -> Pass
+            requires { IsSync R.row × IsSync G.row × (table.now.constraints ≡ c.now) × IsOf pass table.now × (length settled.now ≡ done_size_of c.now) × (0 < half) × (first + half ≤ 32) }
+            ensures { IsOf result table.entry.now }
+        { run(rt, alloc, c, table, pass, settled, first, half, gate) },
+        || -> Pass
+            requires { IsSync R.row × IsSync G.row × (table.now.constraints ≡ c.now) × IsOf second table.now × (length settled.now ≡ done_size_of c.now) × (0 < others) × (first + half + others ≤ 32) }
+            ensures { IsOf result table.entry.now }
+        { run(rt, alloc, c, table, second, settled, first + half, others, gate) },
+    );
+    table.join(&mut one, two);
+    one
+}
+
+/// Draws blocks and does those that are not settled, until none is left.
+///
+/// A worker draws at most once more than there are blocks.
+fn draw<G: Gate>(
+    c: &Constraints,
+    table: &TypeTable,
+    pass: &mut Pass,
+    settled: &[u64],
+    worker: u32,
+    gate: &G,
+)
+    requires opened { table.now.constraints ≡ c.now }
+    requires of { IsOf pass.old table.now }
+    requires size { length settled.now ≡ done_size_of c.now }
+    ensures { IsOf pass.new table.now }
+{
+    let blocks = c.blocks();
+    for _ in 0..=blocks {
+        let block = table.claim(pass);
+        if block >= u64::from(blocks) {
+            return;
+        }
+        if !contains(settled, block as u32) {
+            do_block(c, table, pass, worker, block as u32, gate);
+        }
+    }
+}
+
+/// Does each block that is neither done nor settled.
+fn do_rest<G: Gate>(
+    c: &Constraints,
+    table: &TypeTable,
+    pass: &mut Pass,
+    settled: &[u64],
+    gate: &G,
+)
+    requires opened { table.now.constraints ≡ c.now }
+    requires of { IsOf pass.old table.now }
+    requires size { length settled.now ≡ done_size_of c.now }
+    ensures of { IsOf pass.new table.now }
+    ensures all { (block : ℕ) → block < blocks_of c.now → IsMember pass.new.view.worker.done block ⊎ IsMember settled.now block }
+{
+    for block in 0..c.blocks() {
+        if !contains(settled, block) && !pass.has_done(block) {
+            do_block(c, table, pass, 0, block, gate);
+        }
+    }
+}
