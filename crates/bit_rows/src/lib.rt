@@ -21,6 +21,14 @@ pub fn contains(row: &[u64], atom: u32) -> bool
     (word >> (atom % 64)) & 1 == 1
 }
 
+/// Puts a number into a row.
+pub fn insert(row: &mut [u64], atom: u32)
+    requires { atom < 64 * length row.old }
+    ensures { (k : ℕ) → IsMember row.new k ↔ (IsMember row.old k ⊎ (k ≡ atom)) }
+{
+    row[atom as usize / 64] |= 1 << (atom % 64);
+}
+
 /// Puts each member of `from` into `to`.
 pub fn union_into(to: &mut [u64], from: &[u64])
     requires { length to.old ≡ length from.now }

@@ -8,7 +8,10 @@
 
 mod block;
 mod round;
+mod rounds;
 mod rule;
+mod settled;
 mod step;
 
 pub use block::do_block;
+pub use rounds::solve;
