@@ -65,9 +65,9 @@ not_last c last grown row steps reaches member closed =
       | inl early ↦ omega arith
       | inr late ↦
           absurd
-              (not_same c reaches.base last.rows.words grown row reaches.grows member
-              (λ r a h.
-              reaches.stages steps (omega arith) r a (closed_least c steps closed r a (reaches.answer.within r a h))))
+          (not_same c reaches.base last.rows.words grown row reaches.grows member
+          (λ r a h.
+          reaches.stages steps (omega arith) r a (closed_least c steps closed r a (reaches.answer.within r a h))))
     ]
 
 -- what plain steps have reached by the end of a round stands in its rows

@@ -93,9 +93,9 @@ seen_grow c table before after word mask found opened of there knows row atom ro
     let size : length before.view.worker.grown ≡ size_of table.constraints = of.own.grown_size in
     let P : Held → Type 0 = λ p. In c p.view.worker.grown row atom in
     inr
-        (subst P (sym knows)
-        (in_new c before.view.worker.grown word (bit_or mask found) row atom (omega arith) row_there atom_there place
-        ((bit_of_or mask found (atom % 64)).1 (inl set))))
+    (subst P (sym knows)
+    (in_new c before.view.worker.grown word (bit_or mask found) row atom (omega arith) row_there atom_there place
+    ((bit_of_or mask found (atom % 64)).1 (inl set))))
 
 -- what followed from what was loaded follows from what is loaded now
 pub follows_on :

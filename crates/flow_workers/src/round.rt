@@ -78,7 +78,19 @@ fn run<R: Threads + Sync, G: Gate>(
         || -> Pass
             requires { IsSync R.row × IsSync G.row × (table.now.constraints ≡ c.now) × IsOf second table.now × (length settled.now ≡ done_size_of c.now) × (0 < others) × (first + half + others ≤ 32) }
             ensures { IsOf result table.entry.now }
-        { run(rt, alloc, c, table, second, settled, first + half, others, gate) },
+        {
+            run(
+                rt,
+                alloc,
+                c,
+                table,
+                second,
+                settled,
+                first + half,
+                others,
+                gate,
+            )
+        },
     );
     table.join(&mut one, two);
     one
@@ -113,13 +125,7 @@ fn draw<G: Gate>(
 }
 
 /// Does each block that is neither done nor settled.
-fn do_rest<G: Gate>(
-    c: &Constraints,
-    table: &TypeTable,
-    pass: &mut Pass,
-    settled: &[u64],
-    gate: &G,
-)
+fn do_rest<G: Gate>(c: &Constraints, table: &TypeTable, pass: &mut Pass, settled: &[u64], gate: &G)
     requires opened { table.now.constraints ≡ c.now }
     requires of { IsOf pass.old table.now }
     requires size { length settled.now ≡ done_size_of c.now }
