@@ -1,5 +1,5 @@
 -- What a rule gives, word by word, among what a pass has loaded or grown.
-use Rattle.std.proofs.Common.{ℕ, List, Some, slice_get, ◌≡◌, ◌+◌, ◌*◌, ◌/◌, ◌%◌, ◌^◌, ◌<◌, ◌↔◌, inl, inr, refl, sym, ◌∙◌, ap, arith, subst}
+use Rattle.std.proofs.Common.{ℕ, List, ◌≡◌, ◌+◌, ◌*◌, ◌/◌, ◌%◌, ◌^◌, ◌<◌, inl, inr, refl, sym, ◌∙◌, ap, arith, subst}
 use Rattle.std.specs.Int.{bit_at}
 use Rattle.std.proofs.lemmas.Bool.{cases_lt}
 use Rattle.std.proofs.lemmas.Nat.{mul-add-lt, same_from_place}
@@ -7,7 +7,7 @@ use Rattle.flow_form.specs.declared.constraints.Constraints.{Constraints}
 use Rattle.flow_form.specs.declared.rule.Give.{Give}
 use Rattle.flow_form.specs.declared.rule.Give.TheVariants.{Atom, Row}
 use Rattle.flow_form.specs.declared.rule.Rule.{Rule}
-use Rattle.flow_form.specs.Least.{Given, Gives, GivesAtom, Within}
+use Rattle.flow_form.specs.Least.{Given, GivesAtom, Within}
 use Rattle.flow_form.specs.Race.{MaskWithin, Seen}
 use Rattle.flow_form.specs.Shape.{In, size_of, stride_of}
 use Rattle.flow_form.specs.Valid.{GiveNames, RuleNames}

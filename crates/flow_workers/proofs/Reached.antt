@@ -1,13 +1,12 @@
 -- From round to round: the rows lie within the least solution, and each round but the last adds a pair.
-use Rattle.std.proofs.Common.{ℕ, zero, suc, List, length, ◌≡◌, ◌+◌, ◌*◌, ◌^◌, ◌<◌, ◌≤◌, inl, inr, refl, sym, ◌∙◌, ap, arith, subst}
+use Rattle.std.proofs.Common.{ℕ, zero, suc, List, length, ◌≡◌, ◌+◌, ◌*◌, ◌<◌, ◌≤◌, inl, inr, sym, arith, subst}
 use Rattle.std.proofs.lemmas.Bool.{cases_lt}
 use Rattle.bit_rows.specs.Members.{IsMember}
 use Rattle.flow_form.specs.declared.constraints.Constraints.{Constraints}
-use Rattle.flow_form.specs.Least.{Closed, Least, Nothing, Plain, Stage, Within}
-use Rattle.flow_form.specs.Shape.{HoldsLeast, In, pairs_in, size_of}
+use Rattle.flow_form.specs.Least.{Closed, Least, Nothing, Stage, Within}
+use Rattle.flow_form.specs.Shape.{In, pairs_in, size_of}
 use Rattle.flow_form.proofs.Count.{pairs_few, pairs_grow}
 use Rattle.flow_form.proofs.Least.{given_more, least_within}
-use Rattle.flow_form.proofs.Words.{in_zeros}
 use Rattle.type_table.specs.Tables.{Answer, IsAnswer}
 use Rattle.flow_workers.specs.Rounds.{AreGrown, IsRound, IsSolved, Reaches}
 

@@ -1,5 +1,5 @@
 -- Which rows have been found grown, and which blocks settled, by a loop over them.
-use Rattle.std.proofs.Common.{ℕ, List, length, Option, None, Some, slice_get, ◌≡◌, ◌+◌, ◌*◌, ◌/◌, ◌<◌, ◌≤◌, ◌⊎◌, ◌↔◌, inl, inr, refl, arith, subst}
+use Rattle.std.proofs.Common.{ℕ, List, length, Option, None, Some, slice_get, ◌≡◌, ◌+◌, ◌*◌, ◌<◌, ◌≤◌, ◌⊎◌, ◌↔◌, inl, inr, arith, subst}
 use Rattle.std.proofs.lemmas.Bool.{cases_lt}
 use Rattle.bit_rows.specs.Members.{IsMember, IsSubset}
 use Rattle.flow_form.specs.declared.constraints.Constraints.{Constraints}
@@ -10,7 +10,7 @@ use Rattle.flow_form.specs.declared.rule.Test.{Test}
 use Rattle.flow_form.specs.declared.rule.Test.TheVariants.{Has, Other}
 use Rattle.flow_form.specs.Least.{Given, GivenByBlock, GivesAtom, TestHolds, Within}
 use Rattle.flow_form.specs.Shape.{In, done_size_of}
-use Rattle.flow_workers.specs.Rounds.{AreGrown, AreSettled, BlockRests, GiveRests, HasRows, RowWithin, RuleRests, TestRests}
+use Rattle.flow_workers.specs.Rounds.{AreGrown, BlockRests, GiveRests, HasRows, RowWithin, RuleRests, TestRests}
 
 -- ---- rows
 

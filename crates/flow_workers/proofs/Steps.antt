@@ -1,6 +1,5 @@
 -- What a pass knows after a load or a grow, and after several steps.
 use Rattle.std.proofs.Common.{ℕ, length, ◌≡◌, ◌%◌, ◌<◌, inl, inr, sym, ap, arith, subst, bit_or}
-use Rattle.std.specs.Int.{bit_at}
 use Rattle.bit_rows.proofs.Words.{bit_of_or}
 use Rattle.flow_form.specs.declared.constraints.Constraints.{Constraints}
 use Rattle.flow_form.specs.Least.{Given, Within}

@@ -1,5 +1,5 @@
 -- What a round leaves, which blocks the next one may skip, and what the workers answer in the end.
-use Rattle.std.specs.Prelude.{ℕ, List, Option, Some, None, ◌≡◌, ◌+◌, ◌*◌, ◌/◌, ◌<◌, ◌≤◌, length, slice_get}
+use Rattle.std.specs.Prelude.{ℕ, List, Option, Some, None, ◌≡◌, ◌+◌, ◌*◌, ◌/◌, ◌≤◌, length, slice_get}
 use Rattle.bit_rows.specs.Members.{IsMember}
 use Rattle.flow_form.specs.declared.constraints.Constraints.{Constraints}
 use Rattle.flow_form.specs.declared.rule.Give.{Give}

@@ -1,8 +1,7 @@
 -- What a pass holds after it has finished a block or has taken in another pass.
-use Rattle.std.proofs.Common.{ℕ, List, ◌++◌, drop, length, take, ◌≡◌, ◌/◌, ◌%◌, ◌^◌, ◌<◌, ◌⊎◌, ◌↔◌, inl, inr, sym, ap, ◌∙◌, subst, arith, bit_or, get_or}
+use Rattle.std.proofs.Common.{ℕ, List, ◌++◌, drop, length, take, ◌≡◌, ◌/◌, ◌%◌, ◌^◌, ◌<◌, ◌⊎◌, ◌↔◌, inl, inr, sym, ap, ◌∙◌, subst, arith, get_or}
 use Rattle.std.specs.Int.{bit_at}
 use Rattle.std.proofs.Math.Seq.{take-append_seam}
-use Rattle.std.proofs.lemmas.List.{length-set}
 use Rattle.std.proofs.lemmas.Nat.Bits.{bit_at-pow_same}
 use Rattle.atomic_table.specs.Table.{Me}
 use Rattle.bit_rows.specs.Members.{IsMember}
@@ -15,41 +14,45 @@ use Rattle.type_table.specs.SharedWords.{joined_view, with_worker}
 use Rattle.type_table.specs.Tables.{Held, IsHeld, IsOf, Opened, knowing}
 use Rattle.type_table.proofs.Steps.{own_joined}
 
--- a member of a row to which a block was added, in another row to which it was
-member_added :
-    (one other : List ℕ) (block : ℕ) → ((k : ℕ) → IsMember one k → IsMember other k) → block / 64 < length other
-    → (k : ℕ) → IsMember (with_bits one (block / 64) (2 ^ (block % 64))) k
-    → IsMember (with_bits other (block / 64) (2 ^ (block % 64))) k
-member_added one other block part there k h =
-    elim (member_more one block k h) [
-      | inl old ↦ bit_kept other (block / 64) (2 ^ (block % 64)) (k / 64) (k % 64) (part k old)
-      | inr same ↦
-          let Bit : ℕ → Type 0 = λ bit. bit_at (2 ^ (block % 64)) bit ≡ 1 in
-          bit_new other (block / 64) (2 ^ (block % 64)) (k / 64) (k % 64) there (ap (λ (n : ℕ). n / 64) same)
-          (subst Bit (ap (λ (n : ℕ). n % 64) (sym same)) (bit_at-pow_same (block % 64)))
-    ]
+member_with :
+    (words : List ℕ) (block k : ℕ) → block / 64 < length words
+    → IsMember (with_bits words (block / 64) (2 ^ (block % 64))) k ↔ (IsMember words k ⊎ (k ≡ block))
+member_with words block k there = (
+  member_more words block k,
+  (λ h. elim h [
+    | inl old ↦ bit_kept words (block / 64) (2 ^ (block % 64)) (k / 64) (k % 64) old
+    | inr same ↦
+        let Bit : ℕ → Type 0 = λ bit. bit_at (2 ^ (block % 64)) bit ≡ 1 in
+        bit_new words (block / 64) (2 ^ (block % 64)) (k / 64) (k % 64) there (ap (λ (n : ℕ). n / 64) same)
+        (subst Bit (ap (λ (n : ℕ). n % 64) (sym same)) (bit_at-pow_same (block % 64)))
+  ]),
+)
 
 pub held_finish :
     (me after : Me ℕ View) (done noted : List ℕ) (block : ℕ) → IsHeld me done
     → length me.0.worker.done ≡ done_size_of me.0.constraints → block < blocks_of me.0.constraints
-    → after ≡ (with_worker me.0 (finishing block me.0.worker), me.1)
-    → noted ≡ with_bits done (block / 64) (2 ^ (block % 64)) → IsHeld after noted
-held_finish me after done noted block h size below is bits =
+    → after ≡ (with_worker me.0 (finishing block me.0.worker), me.1) → length noted ≡ length done
+    → ((k : ℕ) → IsMember noted k ↔ (IsMember done k ⊎ (k ≡ block))) → IsHeld after noted
+held_finish me after done noted block h size below is same members =
     let Now : Me ℕ View → Type 0 = λ m. IsHeld m noted in
-    let With : List ℕ → Type 0 = λ row. IsHeld (with_worker me.0 (finishing block me.0.worker), me.1) row in
-    let there : block / 64 < length done = omega (arith, h.done_size) in
     let known : block / 64 < length me.0.worker.done = omega (arith, size) in
     subst Now (sym is)
-    (subst With (sym bits)
     record {
       no_slots = h.no_slots;
       live = h.live;
-      done_noted = λ k. (
-        member_added done me.0.worker.done block (λ n. (h.done_noted n).0) known k,
-        member_added me.0.worker.done done block (λ n. (h.done_noted n).1) there k,
-      );
-      done_size = length-set done (block / 64) (bit_or (get_or done (block / 64) 0) (2 ^ (block % 64))) ∙ h.done_size;
-    })
+      done_noted = λ k.
+          let with = member_with me.0.worker.done block k known in (
+            (λ m. elim ((members k).0 m) [
+              | inl old ↦ with.1 (inl ((h.done_noted k).0 old))
+              | inr new ↦ with.1 (inr new)
+            ]),
+            (λ m. elim (with.0 m) [
+              | inl old ↦ (members k).1 (inl ((h.done_noted k).1 old))
+              | inr new ↦ (members k).1 (inr new)
+            ]),
+          );
+      done_size = same ∙ h.done_size;
+    }
 
 -- a slice of the whole length, written back over the items of a vector
 pub written_back :

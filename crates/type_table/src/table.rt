@@ -10,7 +10,7 @@ use crate::closed::{Closed, copy_words};
 use crate::pass::Pass;
 use crate::shared_words::{Claim, Copy, Finish, Gather, Grow, Key, Load, Named, SharedWords, View};
 use atomic_table::{Seat, Shared, Table};
-use bit_rows::union_into;
+use bit_rows::{insert, union_into};
 use flow_form::{Constraints, Rows, no_pairs};
 use scheme_base::Numbers;
 use std::alloc::{AllocError, Global};
@@ -157,7 +157,7 @@ impl TypeTable {
         ensures of { IsOf pass.new self.now }
     {
         finish_as::<Brand>(&self.table.shared, &mut pass.seat, block);
-        note(&mut pass.done, block);
+        insert(pass.done.as_mut_slice(), block);
     }
 
     /// A second pass that knows what this one does. Where there is no memory for it, nothing is changed.
@@ -228,12 +228,4 @@ fn finish_as<B: Named>(
     ensures knows { seat.new.me ≡ (with_worker seat.old.me.0 (finishing block seat.old.me.0.worker), seat.old.me.1) }
 {
     shared.fetch_or::<Finish<B>>(seat, 0, 0);
-}
-
-/// Adds a block to a row of bits.
-fn note(done: &mut Vec<u64>, block: u32)
-    requires { block / 64 < length done.old.items }
-    ensures { done.new.items ≡ with_bits done.old.items (block / 64) (2 ^ (block % 64)) }
-{
-    done[block as usize / 64] |= 1 << (block % 64);
 }

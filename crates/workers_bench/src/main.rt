@@ -39,7 +39,12 @@ fn main(rt: HostRuntime) -> io::Result<()> {
     let Some(c) = constraints(rt.alloc(), if given { LARGE } else { SMALL })? else {
         return println!(rt; "these are too many");
     };
-    println!(rt; "{} rows, {} atoms, {} rules", c.rows, c.atoms, c.rules.len())?;
+    println!(rt;
+        "{} rows, {} atoms, {} rules",
+        c.rows,
+        c.atoms,
+        c.rules.len()
+    )?;
     if word == *b"p" {
         let rows = solve_plain(rt.alloc(), &c)?;
         let pairs = count_ones(rows.words.as_slice());
@@ -58,7 +63,10 @@ fn main(rt: HostRuntime) -> io::Result<()> {
         if given {
             let done = gate.passes.load(Ordering::SeqCst);
             let blocks = u64::from(c.blocks());
-            println!(rt; "{} rounds, {done} blocks done, {blocks} in a round", closed.rounds())?;
+            println!(rt;
+                "{} rounds, {done} blocks done, {blocks} in a round",
+                closed.rounds()
+            )?;
         }
     }
     Ok(())

@@ -7,7 +7,9 @@ use std::alloc::{AllocError, Global};
 
 /// The variables of a procedure: its parameter, its result and seven others.
 const VARIABLES: u32 = 9;
+
 const PARAMETER: u32 = 0;
+
 const RESULT: u32 = 1;
 
 /// The procedures that come after one and may be called by it.
@@ -45,10 +47,7 @@ fn reached(procedure: u32) -> Option<Test>
 
 /// The constraints of so many procedures: ten rows, about one and a half atoms and a thousand rules for
 /// each, if the counts are within the limits.
-pub(crate) fn constraints(
-    alloc: Global,
-    procedures: u32,
-) -> Result<Option<Constraints>, AllocError>
+pub(crate) fn constraints(alloc: Global, procedures: u32) -> Result<Option<Constraints>, AllocError>
     requires some { 0 < procedures }
     requires few { procedures ≤ 2000 }
 {

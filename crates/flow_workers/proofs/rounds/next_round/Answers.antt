@@ -1,7 +1,7 @@
-use Rattle.std.proofs.Common.{ℕ, List, ◌≡◌, ◌+◌, ◌*◌, ◌^◌, ◌<◌, ◌≤◌, arith, rules, subst}
+use Rattle.std.proofs.Common.{ℕ, List, ◌+◌, ◌*◌, ◌^◌, ◌≤◌, arith, rules, subst}
 use Rattle.bit_rows.specs.Members.{IsMember}
 use Rattle.flow_form.specs.Shape.{size_of}
-use Rattle.flow_workers.specs.Rounds.{AreGrown, BlockRests, IsRound}
+use Rattle.flow_workers.specs.Rounds.{AreGrown, BlockRests}
 use Rattle.flow_workers.proofs.Reached.{reaches_next, rounds_few}
 use Rattle.flow_workers.proofs.Resting.{settled_next}
 use Rattle.flow_workers.proofs.rounds.next_round.Goals as goal

@@ -1,5 +1,5 @@
-use Rattle.std.proofs.Common.{ℕ, ◌≡◌, ◌+◌, ◌*◌, ◌<◌, ap, arith, subst, sym}
-use Rattle.flow_form.specs.Shape.{size_of, stride_of}
+use Rattle.std.proofs.Common.{ℕ, ◌+◌, ◌*◌, ◌<◌, ap, arith, subst, sym}
+use Rattle.flow_form.specs.Shape.{size_of}
 use Rattle.flow_form.specs.Valid.{GiveNames}
 use Rattle.flow_form.specs.declared.rule.Give.{Give}
 use Rattle.flow_workers.proofs.Gifts.{follows_row, gives_row_more, names_of, place_there}
