@@ -1,6 +1,13 @@
+pub mod Builds
 pub mod Ends
 pub mod Good
+pub mod Levels
+pub mod Lexing
 pub mod Lifts
+pub mod Numbers
 pub mod OneAnswer
 pub mod OneReading
+pub mod States
+pub mod Strings
 pub mod WholeTrees
+pub mod Words

@@ -1,4 +1,5 @@
-//! Reads a text as data, or finds its one fault. So far: what a text is, and the laws by which it is read.
+//! Reads a text as data, or finds its one fault. So far: what a text is, the laws by which it is read, the
+//! code that finds a text's next token, and the nodes and levels of what is open.
 //!
 //! What the tokens of a text are, and which tokens are a text, is said in datum_form by whole texts.
 //! `specs/Answer` says which data a text reads as, and which fault it has; `one_answer` is the law that it
@@ -9,6 +10,16 @@
 
 mod error;
 mod law;
+mod level;
+mod lexer;
+mod nodes;
+mod number;
+mod piece;
+mod place;
+mod reading;
+mod string;
+mod token;
+mod word;
 
 pub use error::ReadErr;
 pub use law::{one_answer, one_reading};

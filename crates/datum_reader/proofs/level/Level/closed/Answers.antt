@@ -1,0 +1,23 @@
+use Rattle.std.proofs.Common.{subst}
+use Rattle.datum_reader.specs.declared.level.Level.{Level}
+use Rattle.datum_reader.specs.Levels.{HoldsLevel}
+use Rattle.datum_reader.proofs.Levels.{listing_closes, tailed_closes, rowing_closes}
+use Rattle.datum_reader.proofs.level.Level.closed.Goals as goal
+
+pub returns-in-Listing : goal.returns-in-Listing
+returns-in-Listing c = λ f h.
+    let P : Level → Type 0 = λ l. HoldsLevel c.args.nodes.now l f in
+    listing_closes c.args.nodes.now c.list-in-Listing.new.nodes c.in-Listing.pos c.in-Listing.items
+    c.in_ok-id-in-Listing.id f (subst P c.in-Listing.is h) c.in_ok-id-in-Listing.ensures
+
+pub returns-in-Tailed : goal.returns-in-Tailed
+returns-in-Tailed c = λ f h.
+    let P : Level → Type 0 = λ l. HoldsLevel c.args.nodes.now l f in
+    tailed_closes c.args.nodes.now c.dotted.new.nodes c.in-Tailed.pos c.in-Tailed.items c.in-Tailed.tail
+    c.in_ok-id-in-Tailed.id f (subst P c.in-Tailed.is h) c.in_ok-id-in-Tailed.ensures
+
+pub returns-in-Rowing : goal.returns-in-Rowing
+returns-in-Rowing c = λ f h.
+    let P : Level → Type 0 = λ l. HoldsLevel c.args.nodes.now l f in
+    rowing_closes c.args.nodes.now c.vector.new.nodes c.in-Rowing.pos c.in-Rowing.items c.in_ok-id-in-Rowing.id f
+    (subst P c.in-Rowing.is h) c.in_ok-id-in-Rowing.ensures

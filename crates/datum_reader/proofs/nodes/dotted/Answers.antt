@@ -1,0 +1,29 @@
+use Rattle.std.proofs.Common.{◌≡◌, ◌++◌, ◌∷◌, [], sym, ap, ◌∙◌}
+use Rattle.std.specs.Prelude.{slice_get}
+use Rattle.datum_form.specs.declared.datums.Kind.TheVariants as kind
+use Rattle.datum_reader.proofs.Builds.{node, same_kind, joins, stays_dotted}
+use Rattle.datum_reader.proofs.nodes.dotted.Goals as goal
+
+pub returns-in_ok-id-in-List : goal.returns-in_ok-id-in-List
+returns-in_ok-id-in-List c = λ is d h k.
+    let nodes = c.args.nodes.now in
+    let after = c.add.new.nodes in
+    let pos = c.args.pos in
+    let more = c.in-List.more in
+    let end = c.in-List.end in
+    let there = c.in-Some.node.now in
+    let all = c.in_ok-extend_from_slice-in-List.ensures.ok ∙ ap (λ l. c.args.items ++ l) c.as_slice.ensures in
+    let at : slice_get nodes c.args.tail ≡ node (kind.List more end) there.pos =
+    sym c.in-Some.ensures.value ∙ ap (λ l. node l there.pos) c.in-List.is in
+    joins nodes after c.in_ok-id-in-List.id c.args.tail c.args.items more end is d pos there.pos
+    c.in_ok-id-in-List.ensures.number
+    (c.in_ok-id-in-List.ensures.added ∙ ap (λ l. nodes ++ record { kind = kind.List l end; pos = pos } ∷ []) all) at h k
+
+pub returns-in_ok-id-in_default-kind : goal.returns-in_ok-id-in_default-kind
+returns-in_ok-id-in_default-kind c = λ is d h k.
+    let there = c.in-Some.node.now in
+    stays_dotted c.args.nodes.now c.add-in_default-kind.new.nodes c.in_ok-id-in_default-kind.id c.args.tail c.args.items
+    is d c.args.pos c.in_ok-id-in_default-kind.ensures.number c.in_ok-id-in_default-kind.ensures.added
+    (λ more end q e.
+    c.in_default-kind.not-List more end (same_kind there.kind (kind.List more end) there.pos q (c.in-Some.ensures.value ∙ e)))
+    h k

@@ -1,0 +1,25 @@
+-- Nodes that are added, and the data that they stand for.
+use Rattle.std.specs.Prelude.{◌≡◌, ℕ, List as Seq, ◌++◌}
+use Rattle.scheme_base.specs.declared.pos.Pos.{Pos}
+use Rattle.datum_form.specs.declared.datums.Node.{Node}
+use Rattle.datum_form.specs.Data.{Datum, Items}
+use Rattle.datum_form.specs.Data.Datum.{Single, Chain, Dotted, Row}
+use Rattle.datum_form.specs.Data.Items.{none, item}
+use Rattle.datum_form.specs.Stands.{Stands}
+
+-- after the call the node of this number stands for this datum, and the nodes before are as they were
+pub record Builds (before after : Seq Node) (id : ℕ) (d : Datum) : Type 0 where
+  pub more : Seq Node
+  pub whole : after ≡ before ++ more
+  pub stands : Stands after id d
+
+abbrev pub append : Items → Items → Items
+append none js = js
+append (item d is) js = item d (append is js)
+
+-- the list at a place that has these items before a tail, which is joined where it is a list itself
+abbrev pub tailed : Pos → Items → Datum → Datum
+tailed p is (Single q a) = Dotted p is (Single q a)
+tailed p is (Chain q js) = Chain p (append is js)
+tailed p is (Dotted q js t) = Dotted p (append is js) t
+tailed p is (Row q js) = Dotted p is (Row q js)
