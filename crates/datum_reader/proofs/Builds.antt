@@ -20,7 +20,7 @@ use Rattle.datum_reader.specs.Nodes.{Builds, append, tailed}
 
 -- The last node
 
-at_length : (nodes : Seq Node) (x : Node) → slice_get (nodes ++ x ∷ []) (length nodes) ≡ Some x
+pub at_length : (nodes : Seq Node) (x : Node) → slice_get (nodes ++ x ∷ []) (length nodes) ≡ Some x
 at_length [] x = refl
 at_length (n ∷ nodes) x = at_length nodes x
 

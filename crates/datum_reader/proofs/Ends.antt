@@ -8,7 +8,7 @@ use Rattle.datum_form.specs.Syntax.Rest.{End, More, Tail}
 use Rattle.datum_form.specs.Syntax.Elements.{Last, Further}
 use Rattle.datum_form.specs.Faults.{Fault}
 use Rattle.datum_form.specs.Faults.Fault.{IsStray, IsDeep, IsUnclosed}
-use Rattle.datum_reader.specs.Machine.{Frame, Run, step, run, start}
+use Rattle.datum_reader.specs.Machine.{Frame, Run, frame_place, step, run, start}
 use Rattle.datum_reader.specs.Machine.Frame.{Opened, Listing, Dotted, Tailed, Rowing, Waiting}
 use Rattle.datum_reader.specs.Machine.Run.{On, Stray, Deep}
 use Rattle.datum_reader.proofs.WholeTrees.{text_run}
@@ -96,14 +96,6 @@ deep_begins n m fs tops front t e deep =
     (subst P (sym (next_one (suc n) (suc m) fs tops front t lifted)) (deep_step t m fs tops deep))
 
 -- What a reading ends with
-
-abbrev pub frame_place : Frame → Pos
-frame_place (Opened p) = p
-frame_place (Listing p a is) = p
-frame_place (Dotted p a is d) = p
-frame_place (Tailed p a is d t) = p
-frame_place (Rowing p is) = p
-frame_place (Waiting p m) = p
 
 -- this reading ends with this fault
 abbrev pub Shows : Run → Fault → Type 0

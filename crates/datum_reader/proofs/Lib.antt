@@ -9,5 +9,7 @@ pub mod OneAnswer
 pub mod OneReading
 pub mod States
 pub mod Strings
+pub mod Takes
+pub mod Turns
 pub mod WholeTrees
 pub mod Words

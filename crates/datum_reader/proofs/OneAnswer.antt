@@ -12,17 +12,17 @@ use Rattle.datum_form.specs.Text.Ending.{Clean, BadAt, RangeAt, OpenAt}
 use Rattle.datum_reader.specs.declared.error.ReadErr.{ReadErr}
 use Rattle.datum_reader.specs.declared.error.ReadErr.TheVariants.{Unclosed, Stray, BadToken, NumberRange, TooDeep, TooLong, NoMemory}
 use Rattle.datum_reader.specs.Answer.{max_length, max_depth, Reads, Breaks, Fault, ReadFault}
-use Rattle.datum_reader.specs.Machine.{Frame, Run, run, start}
+use Rattle.datum_reader.specs.Machine.{Frame, Run, frame_place, run, start}
 use Rattle.datum_reader.specs.Machine.Run.{On, Stray as StrayRun, Deep as DeepRun}
 use Rattle.datum_reader.proofs.WholeTrees.{text_run, one_text}
 use Rattle.datum_reader.proofs.Lifts.{IsOn}
-use Rattle.datum_reader.proofs.Ends.{begins_on, on_begins, frame_place, Shows}
+use Rattle.datum_reader.proofs.Ends.{begins_on, on_begins, Shows}
 use Rattle.datum_reader.proofs.OneReading.{outcome, fault_shown}
 
 -- The fault that is told
 
 -- of a reading and of how the tokens end
-abbrev told : Run → Ending → Option ReadErr
+abbrev pub told : Run → Ending → Option ReadErr
 told (StrayRun p) g = Some (Stray p)
 told (DeepRun p) g = Some (TooDeep p)
 told (On m fs tops) (BadAt p) = Some (BadToken p)
@@ -32,14 +32,14 @@ told (On m [] tops) Clean = None
 told (On m (f ∷ fs) tops) Clean = Some (Unclosed (frame_place f))
 
 -- of a text that is too long or not
-abbrev told_of : Bool → ℕ → Run → Ending → Option ReadErr
+abbrev pub told_of : Bool → ℕ → Run → Ending → Option ReadErr
 told_of true n r g = Some (TooLong n)
 told_of false n r g = told r g
 
-abbrev reading : Lexed → Run
+abbrev pub reading : Lexed → Run
 reading lex = run (start max_depth) lex.tokens
 
-abbrev answer : List ℕ → Option ReadErr
+abbrev pub answer : List ℕ → Option ReadErr
 answer text = told_of (nat_lt max_length (length text)) (length text) (reading (lexed text)) (lexed text).ending
 
 too_long : (m n : ℕ) → m < n → nat_lt m n ≡ true
@@ -99,14 +99,14 @@ fault_told lex (Unclosed p) h =
 fault_told lex (TooLong n) h = absurd h
 fault_told lex NoMemory h = absurd h
 
-short_told : (text : List ℕ) (o : Option ReadErr) → length text ≤ max_length
+pub short_told : (text : List ℕ) (o : Option ReadErr) → length text ≤ max_length
     → told (reading (lexed text)) (lexed text).ending ≡ o → answer text ≡ o
 short_told text o short e =
     ap (λ b. told_of b (length text) (reading (lexed text)) (lexed text).ending)
     (not_too_long max_length (length text) short)
     ∙ e
 
-answered : (text : List ℕ) (e : ReadErr) → ReadFault text e → answer text ≡ Some e
+pub answered : (text : List ℕ) (e : ReadErr) → ReadFault text e → answer text ≡ Some e
 answered text (TooLong n) h =
     ap (λ b. told_of b (length text) (reading (lexed text)) (lexed text).ending)
     (too_long max_length (length text) h.0)
@@ -121,16 +121,16 @@ answered text NoMemory h = absurd h.1
 
 -- Data are where no fault is told
 
-data_told : (text : List ℕ) (d : Items) → Reads text d → answer text ≡ None
+pub data_told : (text : List ℕ) (d : Items) → Reads text d → answer text ≡ None
 data_told text d h =
     short_told text None h.short
     (ap (told (reading (lexed text))) h.clean
     ∙ ap (λ r. told r Clean) (text_run max_depth (lexed text).tokens h.trees h.is_text))
 
-some_same : (d e : ReadErr) → Some d ≡ Some e → d ≡ e
+pub some_same : (d e : ReadErr) → Some d ≡ Some e → d ≡ e
 some_same d e h = cc
 
-none_or_some : (e : ReadErr) → None ≡ Some e → ⊥
+pub none_or_some : (e : ReadErr) → None ≡ Some e → ⊥
 none_or_some e h = cc
 
 pub same_data : (text : List ℕ) (d e : Items) → Reads text d → Reads text e → d ≡ e
@@ -146,7 +146,7 @@ data_or_fault text d e h k = none_or_some e (sym (data_told text d h) ∙ answer
 
 -- There is an answer
 
-abbrev Answered : List ℕ → Type 0
+abbrev pub Answered : List ℕ → Type 0
 Answered text = ((d : Items) × Reads text d) ⊎ ((e : ReadErr) × ReadFault text e)
 
 -- a text whose tokens begin a text, by how they end

@@ -7,13 +7,13 @@ use Rattle.datum_form.specs.Syntax.Token.{Open, OpenVector, Close, Dot, Marking,
 use Rattle.datum_form.specs.Faults.{Inside, written_inside, WithinInside, OpenList, OpenRow, StaysOpen, Strays, Deepens, Fault, HasFault}
 use Rattle.datum_form.specs.Faults.Inside.{Items, Dotted as DottedIn, Tailed as TailedIn}
 use Rattle.datum_form.specs.Faults.Fault.{IsStray, IsDeep, IsUnclosed}
-use Rattle.datum_reader.specs.Machine.{Frame, Run, room, in_room, open_one, step, run, start}
+use Rattle.datum_reader.specs.Machine.{Frame, Run, frame_place, room, in_room, open_one, step, run, start}
 use Rattle.datum_reader.specs.Machine.Frame.{Opened, Listing, Dotted, Tailed, Rowing, Waiting}
 use Rattle.datum_reader.specs.Machine.Run.{On, Stray, Deep}
 use Rattle.datum_reader.proofs.WholeTrees.{reads, reads_items, reads_row, text_run}
 use Rattle.datum_reader.proofs.Good.{frame_written, frames_written, FrameWithin, Good, GoodRun, start_good, good_begins}
 use Rattle.datum_reader.proofs.Lifts.{IsOn, TooDeep, on_not_deep, on_before, up, up_swap, raise_levels, raise_run, AtPlace, at_step}
-use Rattle.datum_reader.proofs.Ends.{Going, going, next, next_one, run_append, begins_on, on_begins, stray_none, deep_begins, frame_place, Shows, same_fault, innermost, shows_innermost, innermost_raise, within_up, within_up_all, frame_more, frame_fits, outside}
+use Rattle.datum_reader.proofs.Ends.{Going, going, next, next_one, run_append, begins_on, on_begins, stray_none, deep_begins, Shows, same_fault, innermost, shows_innermost, innermost_raise, within_up, within_up_all, frame_more, frame_fits, outside}
 
 -- There is an outcome
 

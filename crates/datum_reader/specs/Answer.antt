@@ -2,10 +2,12 @@
 --
 -- A text has at most 2^20 bytes, and its data are nested at most 1,000 deep. Its fault is at the first token
 -- after which no such text goes on, or at what is still open at its end.
-use Rattle.std.specs.Prelude.{◌≡◌, ℕ, ◌<◌, ◌≤◌, List, length, ◌⊎◌}
+use Rattle.std.specs.Prelude.{◌≡◌, ℕ, ◌<◌, ◌≤◌, List, length, ◌⊎◌, Result, Ok, Err}
 use Rattle.scheme_base.specs.declared.pos.Pos.{Pos}
 use Rattle.datum_form.specs.Syntax.{Syntax, IsText, Begins}
 use Rattle.datum_form.specs.Data.{Items, data_of}
+use Rattle.datum_form.specs.Stands.{Holds}
+use Rattle.datum_form.specs.declared.datums.Datums.{Datums}
 use Rattle.datum_form.specs.Faults.{Strays, Deepens, Unclosed as UnclosedTokens}
 use Rattle.datum_form.specs.Text.{Ending, Lexed, lexed}
 use Rattle.datum_form.specs.Text.Ending.{Clean, BadAt, RangeAt, OpenAt}
@@ -52,3 +54,18 @@ Fault lex NoMemory = ⊥
 abbrev pub ReadFault : List ℕ → ReadErr → Type 0
 ReadFault text (TooLong n) = (max_length < length text) × (n ≡ length text)
 ReadFault text e = (length text ≤ max_length) × Fault (lexed text) e
+
+-- what is answered is so: data that the text reads as, or its fault; only want of memory has no cause
+abbrev pub Answers : List ℕ → Result Datums ReadErr → Type 0
+Answers text (Ok datums) = (d : Items) × Reads text d × Holds datums d
+Answers text (Err NoMemory) = Unit {0}
+Answers text (Err e) = ReadFault text e
+
+-- the answer is these data
+abbrev pub AreData : Items → Result Datums ReadErr → Type 0
+AreData d (Ok datums) = Holds datums d
+AreData d (Err e) = ⊥
+
+-- this is answered, unless memory is wanting
+abbrev pub OrNoMemory : (Result Datums ReadErr → Type 0) → Result Datums ReadErr → Type 0
+OrNoMemory is answer = is answer ⊎ (answer ≡ Err NoMemory)

@@ -22,6 +22,15 @@ pub data Frame : Type 0 where
   -- a mark that waits for its datum
   Waiting : Pos → Mark → Frame
 
+-- the place of what is open
+abbrev pub frame_place : Frame → Pos
+frame_place (Opened p) = p
+frame_place (Listing p a is) = p
+frame_place (Dotted p a is d) = p
+frame_place (Tailed p a is d t) = p
+frame_place (Rowing p is) = p
+frame_place (Waiting p m) = p
+
 -- how far a reading has come
 pub data Run : Type 0 where
   -- so many levels may still be opened; what is open, the innermost first; the trees outside it

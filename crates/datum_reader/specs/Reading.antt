@@ -1,15 +1,20 @@
 -- How far the reader has come, as a state of the machine.
-use Rattle.std.specs.Prelude.{◌≡◌, ℕ, ◌+◌, List as Seq, [], ◌∷◌, length, reverse, Bool, true, false}
+use Rattle.std.specs.Prelude.{◌≡◌, ℕ, ◌+◌, List as Seq, [], ◌∷◌, length, reverse, Option, Some, None, Result, Ok, Err}
 use Rattle.scheme_base.specs.declared.pos.Pos.{Pos}
 use Rattle.datum_form.specs.declared.datums.Node.{Node}
 use Rattle.datum_form.specs.Data.{datum_of, data_of}
-use Rattle.datum_form.specs.Stands.{Stands, StandAll}
+use Rattle.datum_form.specs.Stands.{Stands, StandAll, Holds as DataHold}
 use Rattle.datum_form.specs.Syntax.{Syntax}
 use Rattle.datum_reader.specs.declared.level.Level.{Level}
 use Rattle.datum_reader.specs.declared.reading.Reading.{Reading}
+use Rattle.datum_reader.specs.declared.reading.Taken.{Taken}
+use Rattle.datum_reader.specs.declared.reading.Taken.TheVariants as taken
+use Rattle.datum_reader.specs.declared.error.ReadErr.{ReadErr}
+use Rattle.datum_reader.specs.declared.error.ReadErr.TheVariants.{Unclosed}
+use Rattle.datum_form.specs.declared.datums.Datums.{Datums}
 use Rattle.datum_reader.specs.Answer.{max_depth}
 use Rattle.datum_reader.specs.Levels.{HoldsLevel}
-use Rattle.datum_reader.specs.Machine.{Frame, Run, give}
+use Rattle.datum_reader.specs.Machine.{Frame, Run, frame_place, give}
 use Rattle.datum_reader.specs.Machine.Run.{On, Stray, Deep}
 
 -- these levels are these frames, the innermost first
@@ -39,7 +44,20 @@ pub record Goes (reading : Reading) (id : ℕ) (us : Seq Syntax) (end : Run) : T
   pub stands : Stands reading.nodes id (datum_of tree)
   pub same : end ≡ give room frames us tree
 
--- the reader is in this state, or a token at this place fits no text
-abbrev pub Follows : Bool → Reading → Pos → Run → Type 0
-Follows true reading q run = IsAt reading run
-Follows false reading q run = run ≡ Stray q
+-- a token at this place is read, fits no text or opens one level too many
+abbrev pub Follows : Taken → Reading → Pos → Run → Type 0
+Follows taken.Goes reading q run = IsAt reading run
+Follows taken.Stray reading q run = run ≡ Stray q
+Follows taken.Deep reading q run = run ≡ Deep q
+
+-- the innermost level, if one is open
+abbrev pub Innermost : Seq Node → Option Level → Seq Frame → Type 0
+Innermost nodes None fs = fs ≡ []
+Innermost nodes (Some l) [] = ⊥
+Innermost nodes (Some l) (f ∷ fs) = HoldsLevel nodes l f
+
+-- the reader answers these trees, or what is open innermost
+abbrev pub Finishes : Result Datums ReadErr → Seq Frame → Seq Syntax → Type 0
+Finishes (Ok datums) fs us = (fs ≡ []) × DataHold datums (data_of us)
+Finishes (Err (Unclosed p)) (f ∷ fs) us = p ≡ frame_place f
+Finishes answer fs us = ⊥

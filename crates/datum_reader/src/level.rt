@@ -1,10 +1,10 @@
-ghost use Rattle.std.specs.Prelude.{List as Seq, IfOk};
+ghost use Rattle.std.specs.Prelude.{◌≡◌, List as Seq, IfOk};
 ghost use Rattle.datum_form.specs.declared.datums.Node.{Node};
 ghost use Rattle.datum_form.specs.Data.{datum_of};
 ghost use Rattle.datum_form.specs.Stands.{Stands};
 ghost use Rattle.datum_form.specs.Syntax.{Syntax};
 ghost use Rattle.datum_reader.specs.Levels.{HoldsLevel, Closes, with_tree};
-ghost use Rattle.datum_reader.specs.Machine.{Frame};
+ghost use Rattle.datum_reader.specs.Machine.{Frame, frame_place};
 
 use crate::nodes::{dotted, list, vector};
 use crate::token::Mark;
@@ -29,6 +29,20 @@ pub(crate) enum Level {
 }
 
 impl Level {
+    /// The place of what is open.
+    pub(crate) fn pos(&self) -> Pos
+        ensures { (nodes : Seq Node) (f : Frame) → HoldsLevel nodes self.now f → result ≡ frame_place f }
+    {
+        match self {
+            Level::Opened(pos) => *pos,
+            Level::Listing(pos, _) => *pos,
+            Level::Dotted(pos, _) => *pos,
+            Level::Tailed(pos, _, _) => *pos,
+            Level::Rowing(pos, _) => *pos,
+            Level::Waiting(pos, _) => *pos,
+        }
+    }
+
     /// This level with one datum more. A mark stays as it is.
     pub(crate) fn with_item(self, alloc: Global, id: u32) -> Result<Level, AllocError>
         ensures { IfOk result (λ level. (nodes : Seq Node) (f : Frame) (s : Syntax) → HoldsLevel nodes self f → Stands nodes id (datum_of s) → HoldsLevel nodes level (with_tree f s)) }

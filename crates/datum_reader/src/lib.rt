@@ -16,6 +16,7 @@ mod nodes;
 mod number;
 mod piece;
 mod place;
+mod read;
 mod reading;
 mod string;
 mod token;
@@ -23,3 +24,4 @@ mod word;
 
 pub use error::ReadErr;
 pub use law::{one_answer, one_reading};
+pub use read::read_program;
