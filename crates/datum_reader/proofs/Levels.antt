@@ -1,9 +1,10 @@
 -- Levels that take a datum or are closed.
-use Rattle.std.proofs.Common.{◌≡◌, ℕ, List as Seq, [], ◌∷◌, ◌++◌, Some, refl, sym, ap, subst, ◌∙◌}
+use Rattle.std.proofs.Common.{◌≡◌, ℕ, ◌<◌, length, List as Seq, [], ◌∷◌, ◌++◌, Some, refl, sym, ap, subst, ◌∙◌}
+use Rattle.std.proofs.lemmas.Option.{slice_get_within}
 use Rattle.scheme_base.specs.declared.pos.Pos.{Pos}
 use Rattle.datum_form.specs.declared.datums.Node.{Node}
 use Rattle.datum_form.specs.Data.{Datum, Items, datum_of, data_of}
-use Rattle.datum_form.specs.Data.Datum.{Chain, Row}
+use Rattle.datum_form.specs.Data.Datum.{Single, Chain, Dotted, Row}
 use Rattle.datum_form.specs.Stands.{Stands, StandAll}
 use Rattle.datum_form.specs.Syntax.{Syntax}
 use Rattle.datum_form.specs.Syntax.Syntax.{Listed, Vector}
@@ -39,6 +40,19 @@ rowing_takes nodes p ids more id (Rowing q is) s h e k =
     let P : Seq ℕ → Type 0 = λ xs. StandAll nodes xs (data_of (is ++ s ∷ [])) in
     (h.0, subst P (sym e) (one_more nodes ids id is s h.1 k))
 rowing_takes nodes p ids more id f s h e k = absurd h
+
+-- A tail is a node
+
+stands_within : (nodes : Seq Node) (id : ℕ) (d : Datum) → Stands nodes id d → id < length nodes
+stands_within nodes id (Single p a) h = slice_get_within nodes id _ h
+stands_within nodes id (Chain p is) h = slice_get_within nodes id _ h.1
+stands_within nodes id (Dotted p is d) h = slice_get_within nodes id _ h.2
+stands_within nodes id (Row p is) h = slice_get_within nodes id _ h.1
+
+pub tail_within : (nodes : Seq Node) (p : Pos) (ids : Seq ℕ) (tail : ℕ) (f : Frame)
+    → HoldsLevel nodes (level.Tailed p ids tail) f → tail < length nodes
+tail_within nodes p ids tail (Tailed q a is d t) h = stands_within nodes tail (datum_of t) h.2
+tail_within nodes p ids tail f h = absurd h
 
 -- Closed levels
 

@@ -18,14 +18,14 @@ use Rattle.datum_reader.specs.declared.level.Level.{Level}
 use Rattle.datum_reader.specs.declared.level.Level.TheVariants as level
 use Rattle.datum_reader.specs.declared.token.Mark.{Mark}
 use Rattle.datum_reader.specs.Found.{mark_of}
-use Rattle.datum_reader.specs.Levels.{HoldsLevel, with_tree, Closes}
+use Rattle.datum_reader.specs.Levels.{HoldsLevel, IsLevel, with_tree, Closes}
 use Rattle.datum_reader.specs.Machine.{Frame, Run, give, shut, rest_of, elements_of}
 use Rattle.datum_reader.specs.Machine.Run.{On}
 use Rattle.datum_reader.specs.Answer.{max_depth}
 use Rattle.datum_reader.specs.declared.reading.Reading.{Reading}
 use Rattle.datum_reader.specs.Machine.Frame.{Opened, Listing, Dotted, Tailed, Rowing, Waiting}
 use Rattle.datum_reader.specs.Nodes.{Builds}
-use Rattle.datum_reader.specs.Reading.{HoldsLevels, Holds, IsAt, Goes}
+use Rattle.datum_reader.specs.Reading.{HoldsLevels, Holds, IsAt, IsReading, Goes}
 use Rattle.datum_reader.proofs.Builds.{all_grown}
 use Rattle.datum_reader.proofs.Levels.{one_more}
 
@@ -248,3 +248,14 @@ closes r mid end l ls id n fs us q h popped left kept closed gives =
     let Q : Seq ℕ → Type 0 = λ ids. StandAll r.nodes ids (data_of us) in
     closes_at r.nodes mid end l ls id n fs us q (subst P (last_first r.levels.items ls l popped) h.levels)
     (subst Q (sym kept) h.tops) (omega (arith, h.room, one_longer r.levels.items ls l popped)) left closed gives
+
+first_level : (nodes : Seq Node) (l : Level) (ls : Seq Level) (fs : Seq Frame) → HoldsLevels nodes (l ∷ ls) fs
+    → IsLevel nodes l
+first_level nodes l ls [] h = absurd h
+first_level nodes l ls (f ∷ fs) h = (f, h.0)
+
+pub last_level : (r : Reading) (l : Level) (ls : Seq Level) → IsReading r → r.levels.items ≡ ls ++ l ∷ []
+    → IsLevel r.nodes l
+last_level r l ls h popped =
+    let P : Seq Level → Type 0 = λ all. HoldsLevels r.nodes all h.frames in
+    first_level r.nodes l (reverse ls) h.frames (subst P (last_first r.levels.items ls l popped) h.holds.levels)

@@ -14,7 +14,7 @@ use Rattle.datum_reader.specs.Answer.{max_length, max_depth, Reads, ReadFault, A
 use Rattle.datum_reader.specs.Lexing.{lexed_at, token_then, ends}
 use Rattle.datum_reader.specs.Machine.{Frame, Run, step, run, start}
 use Rattle.datum_reader.specs.Machine.Run.{On, Stray as StrayRun, Deep as DeepRun}
-use Rattle.datum_reader.specs.Reading.{Holds, IsAt, Finishes}
+use Rattle.datum_reader.specs.Reading.{IsAt, IsReading, Finishes}
 use Rattle.datum_reader.proofs.WholeTrees.{text_run}
 use Rattle.datum_reader.proofs.OneAnswer.{told, short_told, answered, data_told, some_answer, none_or_some, some_same, same_data, same_fault, data_or_fault}
 
@@ -72,55 +72,47 @@ finished text (Err NoMemory) n fs us short same clean h = tt
 
 -- the reading of what is left ends as the reading of the text does
 pub record Pending (lex : Lexed) (reading : Reading) (spot : Spot) : Type 0 where
-  pub room : ℕ
-  pub frames : Seq Frame
-  pub trees : Seq Syntax
-  pub holds : Holds reading room frames trees
-  pub same : run (start max_depth) lex.tokens ≡ run (On room frames trees) (lexed_at spot).tokens
+  pub state : IsReading reading
+  pub same : run (start max_depth) lex.tokens ≡ run (On state.room state.frames state.trees) (lexed_at spot).tokens
   pub ending : lex.ending ≡ (lexed_at spot).ending
 
 pub told_then : (lex rest : Lexed) (reading : Reading) (spot : Spot) (p : Pending lex reading spot)
-    → lexed_at spot ≡ rest → told_left (start max_depth) lex ≡ told_left (On p.room p.frames p.trees) rest
+    → lexed_at spot ≡ rest → told_left (start max_depth) lex ≡ told_left (On p.state.room p.state.frames p.state.trees) rest
 told_then lex rest reading spot p e =
-    let now : Run = On p.room p.frames p.trees in
+    let now : Run = On p.state.room p.state.frames p.state.trees in
     ap (λ r. told r lex.ending) p.same
     ∙ (ap (told (run now (lexed_at spot).tokens)) p.ending ∙ ap (told_left now) e)
 
 abbrev tokens : Lexed → Seq Token
 tokens lex = lex.tokens
 
-record Stands_at (reading : Reading) (r : Run) : Type 0 where
-  room : ℕ
-  frames : Seq Frame
-  trees : Seq Syntax
-  is : r ≡ On room frames trees
-  holds : Holds reading room frames trees
+-- a reader that is in a state of this machine
+record Stands (reading : Reading) (r : Run) : Type 0 where
+  state : IsReading reading
+  is : r ≡ On state.room state.frames state.trees
 
-stands_at : (reading : Reading) (r : Run) → IsAt reading r → Stands_at reading r
-stands_at reading (On n fs us) h = record { room = n; frames = fs; trees = us; is = refl; holds = h }
-stands_at reading (StrayRun p) h = absurd h
-stands_at reading (DeepRun p) h = absurd h
+stands : (reading : Reading) (r : Run) → IsAt reading r → Stands reading r
+stands reading (On n fs us) h = record { state = record { room = n; frames = fs; trees = us; holds = h }; is = refl }
+stands reading (StrayRun p) h = absurd h
+stands reading (DeepRun p) h = absurd h
 
 pub goes_on : (lex : Lexed) (reading next : Reading) (spot after : Spot) (t : Token) (p : Pending lex reading spot)
-    → lexed_at spot ≡ token_then t (lexed_at after) → IsAt next (step p.room p.frames p.trees t)
+    → lexed_at spot ≡ token_then t (lexed_at after) → IsAt next (step p.state.room p.state.frames p.state.trees t)
     → Pending lex next after
 goes_on lex reading next spot after t p e at =
-    let g = stands_at next (step p.room p.frames p.trees t) at in
+    let g = stands next (step p.state.room p.state.frames p.state.trees t) at in
     let left : Seq Token = (lexed_at after).tokens in
     record {
-      room = g.room;
-      frames = g.frames;
-      trees = g.trees;
-      holds = g.holds;
+      state = g.state;
       same =
           p.same
-          ∙ (ap (λ l. run (On p.room p.frames p.trees) (tokens l)) e ∙ ap (λ r. run r left) g.is);
+          ∙ (ap (λ l. run (On p.state.room p.state.frames p.state.trees) (tokens l)) e ∙ ap (λ r. run r left) g.is);
       ending = p.ending ∙ ap (λ l. l.ending) e;
     }
 
 pub stray_read : (text : Seq ℕ) (reading : Reading) (spot after : Spot) (t : Token) (q : Pos)
     (p : Pending (lexed text) reading spot) → length text ≤ max_length
-    → lexed_at spot ≡ token_then t (lexed_at after) → step p.room p.frames p.trees t ≡ StrayRun q
+    → lexed_at spot ≡ token_then t (lexed_at after) → step p.state.room p.state.frames p.state.trees t ≡ StrayRun q
     → ReadFault text (Stray q)
 stray_read text reading spot after t q p short e stops =
     fault_read text (Stray q) short
@@ -129,7 +121,7 @@ stray_read text reading spot after t q p short e stops =
 
 pub deep_read : (text : Seq ℕ) (reading : Reading) (spot after : Spot) (t : Token) (q : Pos)
     (p : Pending (lexed text) reading spot) → length text ≤ max_length
-    → lexed_at spot ≡ token_then t (lexed_at after) → step p.room p.frames p.trees t ≡ DeepRun q
+    → lexed_at spot ≡ token_then t (lexed_at after) → step p.state.room p.state.frames p.state.trees t ≡ DeepRun q
     → ReadFault text (TooDeep q)
 deep_read text reading spot after t q p short e stops =
     fault_read text (TooDeep q) short
@@ -138,10 +130,10 @@ deep_read text reading spot after t q p short e stops =
 
 pub all_read : (text : Seq ℕ) (answer : Result Datums ReadErr) (reading : Reading) (spot : Spot)
     (p : Pending (lexed text) reading spot) → length text ≤ max_length → lexed_at spot ≡ ends Clean
-    → Finishes answer p.frames p.trees → Answers text answer
+    → Finishes answer p.state.frames p.state.trees → Answers text answer
 all_read text answer reading spot p short e h =
-    finished text answer p.room p.frames p.trees short
-    (p.same ∙ ap (λ l. run (On p.room p.frames p.trees) (tokens l)) e) (p.ending ∙ ap (λ l. l.ending) e) h
+    finished text answer p.state.room p.state.frames p.state.trees short
+    (p.same ∙ ap (λ l. run (On p.state.room p.state.frames p.state.trees) (tokens l)) e) (p.ending ∙ ap (λ l. l.ending) e) h
 
 -- Whatever the answer is, it is the only one
 

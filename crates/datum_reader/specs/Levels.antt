@@ -26,6 +26,10 @@ HoldsLevel nodes (level.Rowing p ids) (Rowing q is) = (p ≡ q) × StandAll node
 HoldsLevel nodes (level.Waiting p m) (Waiting q k) = (p ≡ q) × (mark_of m ≡ k)
 HoldsLevel nodes l f = ⊥
 
+-- this level is some frame
+abbrev pub IsLevel : Seq Node → Level → Type 0
+IsLevel nodes l = (f : Frame) × HoldsLevel nodes l f
+
 -- a frame with one tree more; a mark stays as it is
 abbrev pub with_tree : Frame → Syntax → Frame
 with_tree (Opened p) s = Listing p s []

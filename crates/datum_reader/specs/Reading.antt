@@ -35,6 +35,13 @@ IsAt reading (On n fs us) = Holds reading n fs us
 IsAt reading (Stray p) = ⊥
 IsAt reading (Deep p) = ⊥
 
+-- the reader is in some state
+pub record IsReading (reading : Reading) : Type 0 where
+  pub room : ℕ
+  pub frames : Seq Frame
+  pub trees : Seq Syntax
+  pub holds : Holds reading room frames trees
+
 -- a state with a datum that is still to be given, and that ends as another did
 pub record Goes (reading : Reading) (id : ℕ) (us : Seq Syntax) (end : Run) : Type 0 where
   pub room : ℕ

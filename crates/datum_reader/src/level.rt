@@ -3,7 +3,7 @@ ghost use Rattle.datum_form.specs.declared.datums.Node.{Node};
 ghost use Rattle.datum_form.specs.Data.{datum_of};
 ghost use Rattle.datum_form.specs.Stands.{Stands};
 ghost use Rattle.datum_form.specs.Syntax.{Syntax};
-ghost use Rattle.datum_reader.specs.Levels.{HoldsLevel, Closes, with_tree};
+ghost use Rattle.datum_reader.specs.Levels.{HoldsLevel, IsLevel, Closes, with_tree};
 ghost use Rattle.datum_reader.specs.Machine.{Frame, frame_place};
 
 use crate::nodes::{dotted, list, vector};
@@ -68,6 +68,7 @@ impl Level {
 
     /// The datum that a `)` closes here, if one may stand here.
     pub(crate) fn closed(self, alloc: Global, nodes: &mut Nodes) -> Result<Option<u32>, AllocError>
+        requires { IsLevel nodes.old self }
         ensures { IfOk result (λ id. (f : Frame) → HoldsLevel nodes.old self f → Closes nodes.old nodes.new id f) }
     {
         match self {

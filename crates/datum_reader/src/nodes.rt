@@ -1,4 +1,4 @@
-ghost use Rattle.std.specs.Prelude.{◌≡◌, ◌∷◌, ◌++◌, [], Some, None, length, IfOk, OnOk, ℕ};
+ghost use Rattle.std.specs.Prelude.{◌≡◌, ◌∷◌, ◌++◌, [], Some, None, ◌<◌, length, IfOk, OnOk, ℕ};
 ghost use Rattle.datum_form.specs.Data.{Datum, Items, mark_name};
 ghost use Rattle.datum_form.specs.Data.Datum.{Single, Chain, Row};
 ghost use Rattle.datum_form.specs.Data.Items.{none, item};
@@ -49,12 +49,11 @@ pub(crate) fn vector(nodes: &mut Nodes, items: Ids, pos: Pos) -> Result<u32, All
 
 /// A list of items before a tail, which is joined to them where it is a list itself.
 pub(crate) fn dotted(nodes: &mut Nodes, items: Ids, tail: u32, pos: Pos) -> Result<u32, AllocError>
+    requires { tail < length nodes.old }
     ensures { IfOk result (λ id. (is : Items) (d : Datum) → StandAll nodes.old items is → Stands nodes.old tail d → Builds nodes.old nodes.new id (tailed pos is d)) }
 {
-    let Some(node) = nodes.get(tail as usize) else {
-        return Err(AllocError);
-    };
-    match &node.kind {
+    let table = nodes.as_slice();
+    match &table[tail as usize].kind {
         Kind::List {
             items: more,
             tail: end,

@@ -11,7 +11,7 @@ ghost use Rattle.datum_reader.specs.Levels.{HoldsLevel};
 ghost use Rattle.datum_reader.specs.Machine.{Frame, room, in_room, open_one, give, dot, shut, step, start};
 ghost use Rattle.datum_reader.specs.Machine.Run.{On};
 ghost use Rattle.datum_reader.specs.Answer.{max_depth};
-ghost use Rattle.datum_reader.specs.Reading.{IsAt, Innermost, Follows, Finishes};
+ghost use Rattle.datum_reader.specs.Reading.{IsAt, IsReading, Innermost, Follows, Finishes};
 
 use crate::ReadErr;
 use crate::level::Level;
@@ -123,6 +123,7 @@ impl Reading {
 
     /// Closes the innermost level.
     fn shut(&mut self, alloc: Global) -> Result<Taken, AllocError>
+        requires { IsReading self.old }
         ensures { IfOk result (λ taken. (n : ℕ) (fs : Seq Frame) (us : Seq Syntax) (q : Pos) → IsAt self.old (On n fs us) → Follows taken self.new q (shut n fs us q)) }
     {
         let Some(level) = self.levels.pop() else {
@@ -151,6 +152,7 @@ impl Reading {
 
     /// Takes a token at a place.
     pub(crate) fn take(&mut self, alloc: Global, token: Token, pos: Pos) -> Result<Taken, AllocError>
+        requires { IsReading self.old }
         ensures { IfOk result (λ taken. (n : ℕ) (fs : Seq Frame) (us : Seq Syntax) → IsAt self.old (On n fs us) → Follows taken self.new pos (step n fs us (token_at pos token))) }
     {
         let taken = match token {

@@ -1,5 +1,6 @@
-use Rattle.std.proofs.Common.{◌≡◌, ◌++◌, ◌∷◌, [], sym, ap, ◌∙◌}
+use Rattle.std.proofs.Common.{refl, Some, length, get_or, ◌≡◌, ◌++◌, ◌∷◌, [], sym, ap, ◌∙◌}
 use Rattle.std.specs.Prelude.{slice_get}
+use Rattle.std.proofs.lemmas.Option.{slice_get_read}
 use Rattle.datum_form.specs.declared.datums.Kind.TheVariants as kind
 use Rattle.datum_reader.proofs.Builds.{node, same_kind, joins, stays_dotted}
 use Rattle.datum_reader.proofs.nodes.dotted.Goals as goal
@@ -11,19 +12,29 @@ returns-in_ok-id-in-List c = λ is d h k.
     let pos = c.args.pos in
     let more = c.in-List.more in
     let end = c.in-List.end in
-    let there = c.in-Some.node.now in
+    let read = c.index-table-tail.result in
+    let there = get_or c.as_slice-table.result.now c.args.tail read in
+    let at_tail : slice_get c.args.nodes.now c.args.tail ≡ Some there =
+    slice_get_read c.args.nodes.now (length c.args.nodes.now) c.args.tail read refl c.requires
+    (c.index-table-tail.is ∙ ap (λ ns. get_or ns c.args.tail read) c.as_slice-table.ensures)
+    ∙ ap Some c.index-table-tail.is in
     let all = c.in_ok-extend_from_slice-in-List.ensures.ok ∙ ap (λ l. c.args.items ++ l) c.as_slice.ensures in
     let at : slice_get nodes c.args.tail ≡ node (kind.List more end) there.pos =
-    sym c.in-Some.ensures.value ∙ ap (λ l. node l there.pos) c.in-List.is in
+    at_tail ∙ ap (λ l. node l there.pos) c.in-List.is in
     joins nodes after c.in_ok-id-in-List.id c.args.tail c.args.items more end is d pos there.pos
     c.in_ok-id-in-List.ensures.number
     (c.in_ok-id-in-List.ensures.added ∙ ap (λ l. nodes ++ record { kind = kind.List l end; pos = pos } ∷ []) all) at h k
 
-pub returns-in_ok-id-in_default-kind : goal.returns-in_ok-id-in_default-kind
-returns-in_ok-id-in_default-kind c = λ is d h k.
-    let there = c.in-Some.node.now in
-    stays_dotted c.args.nodes.now c.add-in_default-kind.new.nodes c.in_ok-id-in_default-kind.id c.args.tail c.args.items
-    is d c.args.pos c.in_ok-id-in_default-kind.ensures.number c.in_ok-id-in_default-kind.ensures.added
+pub returns-in_ok-id-in_default : goal.returns-in_ok-id-in_default
+returns-in_ok-id-in_default c = λ is d h k.
+    let read = c.index-table-tail.result in
+    let there = get_or c.as_slice-table.result.now c.args.tail read in
+    let at_tail : slice_get c.args.nodes.now c.args.tail ≡ Some there =
+    slice_get_read c.args.nodes.now (length c.args.nodes.now) c.args.tail read refl c.requires
+    (c.index-table-tail.is ∙ ap (λ ns. get_or ns c.args.tail read) c.as_slice-table.ensures)
+    ∙ ap Some c.index-table-tail.is in
+    stays_dotted c.args.nodes.now c.add-in_default.new.nodes c.in_ok-id-in_default.id c.args.tail c.args.items
+    is d c.args.pos c.in_ok-id-in_default.ensures.number c.in_ok-id-in_default.ensures.added
     (λ more end q e.
-    c.in_default-kind.not-List more end (same_kind there.kind (kind.List more end) there.pos q (c.in-Some.ensures.value ∙ e)))
+    c.in_default.not-List more end (same_kind there.kind (kind.List more end) there.pos q (sym at_tail ∙ e)))
     h k

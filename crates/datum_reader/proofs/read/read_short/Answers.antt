@@ -16,7 +16,11 @@ pub loop-next-init : goal.loop-next-init
 loop-next-init c =
     record {
       pending =
-          record { room = max_depth; frames = []; trees = []; holds = c.new-reading.ensures; same = refl; ending = refl };
+          record {
+            state = record { room = max_depth; frames = []; trees = []; holds = c.new-reading.ensures };
+            same = refl;
+            ending = refl;
+          };
       line = omega arith;
       col = omega arith;
     }
@@ -33,7 +37,7 @@ returns-in-End c =
     let spot = c.loop-next.spot in
     let P : Next → Type 0 = λ x. Scans spot x in
     all_read c.args.text.now c.finish.result c.loop-next.reading spot p c.requires
-    (subst P c.in-End.is c.in-Ok.ensures.value) (c.finish.ensures p.room p.frames p.trees p.holds)
+    (subst P c.in-End.is c.in-Ok.ensures.value) (c.finish.ensures p.state.room p.state.frames p.state.trees p.state.holds)
 
 pub returns-in-BadToken : goal.returns-in-BadToken
 returns-in-BadToken c =
@@ -76,10 +80,10 @@ loop-next-preserved c =
     let pos = c.in-Token.pos in
     let P : Next → Type 0 = λ x. Scans spot x in
     let S : Next → Type 0 = λ x. Shorter spot x in
-    let Q : Taken → Type 0 = λ x. Follows x c.take.new.self pos (step p.room p.frames p.trees (token_at pos c.in-Token.token)) in
+    let Q : Taken → Type 0 = λ x. Follows x c.take.new.self pos (step p.state.room p.state.frames p.state.trees (token_at pos c.in-Token.token)) in
     let e = subst P c.in-Token.is c.in-Ok.ensures.value in
     let past = subst S c.in-Token.is c.in-Ok.ensures.shorter in
-    let at = subst Q c.in-Goes.is (c.in-Ok-take.ensures p.room p.frames p.trees p.holds) in
+    let at = subst Q c.in-Goes.is (c.in-Ok-take.ensures p.state.room p.state.frames p.state.trees p.state.holds) in
     record {
       pending =
           goes_on (lexed c.args.text.now) c.loop-next.reading c.take.new.self spot c.in-Token.after
@@ -95,9 +99,9 @@ returns-in-Stray c =
     let reading = c.loop-next.reading in
     let pos = c.in-Token.pos in
     let P : Next → Type 0 = λ x. Scans spot x in
-    let Q : Taken → Type 0 = λ x. Follows x c.take.new.self pos (step p.room p.frames p.trees (token_at pos c.in-Token.token)) in
+    let Q : Taken → Type 0 = λ x. Follows x c.take.new.self pos (step p.state.room p.state.frames p.state.trees (token_at pos c.in-Token.token)) in
     let e = subst P c.in-Token.is c.in-Ok.ensures.value in
-    let stops = subst Q c.in-Stray.is (c.in-Ok-take.ensures p.room p.frames p.trees p.holds) in
+    let stops = subst Q c.in-Stray.is (c.in-Ok-take.ensures p.state.room p.state.frames p.state.trees p.state.holds) in
     stray_read c.args.text.now reading spot c.in-Token.after (token_at pos c.in-Token.token) pos p c.requires e stops
 
 pub returns-in-Deep : goal.returns-in-Deep
@@ -107,7 +111,10 @@ returns-in-Deep c =
     let reading = c.loop-next.reading in
     let pos = c.in-Token.pos in
     let P : Next → Type 0 = λ x. Scans spot x in
-    let Q : Taken → Type 0 = λ x. Follows x c.take.new.self pos (step p.room p.frames p.trees (token_at pos c.in-Token.token)) in
+    let Q : Taken → Type 0 = λ x. Follows x c.take.new.self pos (step p.state.room p.state.frames p.state.trees (token_at pos c.in-Token.token)) in
     let e = subst P c.in-Token.is c.in-Ok.ensures.value in
-    let stops = subst Q c.in-Deep.is (c.in-Ok-take.ensures p.room p.frames p.trees p.holds) in
+    let stops = subst Q c.in-Deep.is (c.in-Ok-take.ensures p.state.room p.state.frames p.state.trees p.state.holds) in
     deep_read c.args.text.now reading spot c.in-Token.after (token_at pos c.in-Token.token) pos p c.requires e stops
+
+pub take-requires : goal.take-requires
+take-requires c = c.loop-next.invariant.pending.state

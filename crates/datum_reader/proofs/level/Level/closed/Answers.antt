@@ -1,7 +1,7 @@
 use Rattle.std.proofs.Common.{subst}
 use Rattle.datum_reader.specs.declared.level.Level.{Level}
 use Rattle.datum_reader.specs.Levels.{HoldsLevel}
-use Rattle.datum_reader.proofs.Levels.{listing_closes, tailed_closes, rowing_closes}
+use Rattle.datum_reader.proofs.Levels.{tail_within, listing_closes, tailed_closes, rowing_closes}
 use Rattle.datum_reader.proofs.level.Level.closed.Goals as goal
 
 pub returns-in-Listing : goal.returns-in-Listing
@@ -21,3 +21,9 @@ returns-in-Rowing c = λ f h.
     let P : Level → Type 0 = λ l. HoldsLevel c.args.nodes.now l f in
     rowing_closes c.args.nodes.now c.vector.new.nodes c.in-Rowing.pos c.in-Rowing.items c.in_ok-id-in-Rowing.id f
     (subst P c.in-Rowing.is h) c.in_ok-id-in-Rowing.ensures
+
+pub dotted-requires : goal.dotted-requires
+dotted-requires c =
+    let P : Level → Type 0 = λ l. HoldsLevel c.args.nodes.now l c.requires.0 in
+    tail_within c.args.nodes.now c.in-Tailed.pos c.in-Tailed.items c.in-Tailed.tail c.requires.0
+    (subst P c.in-Tailed.is c.requires.1)
