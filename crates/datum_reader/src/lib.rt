@@ -19,6 +19,8 @@ mod place;
 mod read;
 mod reading;
 mod string;
+#[cfg(test)]
+mod tests;
 mod token;
 mod word;
 

@@ -151,7 +151,12 @@ impl Reading {
     }
 
     /// Takes a token at a place.
-    pub(crate) fn take(&mut self, alloc: Global, token: Token, pos: Pos) -> Result<Taken, AllocError>
+    pub(crate) fn take(
+        &mut self,
+        alloc: Global,
+        token: Token,
+        pos: Pos,
+    ) -> Result<Taken, AllocError>
         requires { IsReading self.old }
         ensures { IfOk result (λ taken. (n : ℕ) (fs : Seq Frame) (us : Seq Syntax) → IsAt self.old (On n fs us) → Follows taken self.new pos (step n fs us (token_at pos token))) }
     {
