@@ -1,5 +1,6 @@
 pub mod Data
 pub mod Faults
+pub mod Grammar
 pub mod Stands
 pub mod Syntax
 pub mod Text

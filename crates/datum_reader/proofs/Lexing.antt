@@ -13,7 +13,8 @@ use Rattle.datum_form.specs.Text.Ending.{Clean, BadAt, RangeAt, OpenAt}
 use Rattle.datum_form.specs.Words.{Word, begins_with, small_word, character_word}
 use Rattle.datum_form.specs.Words.Word.{IsToken, OutOfRange, NoWord}
 use Rattle.std.specs.Str.{str_to_ascii_lowercase}
-use Rattle.datum_reader.specs.Lexing.{place_after, token_then, ends}
+use Rattle.datum_form.specs.Grammar.{place_after}
+use Rattle.datum_reader.specs.Lexing.{token_then, ends}
 use Rattle.datum_reader.proofs.Strings.{length_while-step}
 
 -- The bytes of a piece are passed over

@@ -10,6 +10,7 @@ pub mod OneReading
 pub mod States
 pub mod Strings
 pub mod Takes
+pub mod Texts
 pub mod Turns
 pub mod WholeTrees
 pub mod Words

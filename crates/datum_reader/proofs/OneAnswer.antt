@@ -5,6 +5,7 @@ use Rattle.std.specs.Prelude.{nat_lt}
 use Rattle.scheme_base.specs.declared.pos.Pos.{Pos}
 use Rattle.datum_form.specs.Syntax.{Token, Syntax, IsText, Begins}
 use Rattle.datum_form.specs.Data.{Items, data_of}
+use Rattle.datum_form.specs.Grammar.{IsSpelled}
 use Rattle.datum_form.specs.Faults.{Fault as TokenFault, HasFault}
 use Rattle.datum_form.specs.Faults.Fault.{IsStray, IsDeep, IsUnclosed}
 use Rattle.datum_form.specs.Text.{Ending, Lexed, lexed}
@@ -14,6 +15,7 @@ use Rattle.datum_reader.specs.declared.error.ReadErr.TheVariants.{Unclosed, Stra
 use Rattle.datum_reader.specs.Answer.{max_length, max_depth, Reads, Breaks, Fault, ReadFault}
 use Rattle.datum_reader.specs.Machine.{Frame, Run, frame_place, run, start}
 use Rattle.datum_reader.specs.Machine.Run.{On, Stray as StrayRun, Deep as DeepRun}
+use Rattle.datum_reader.proofs.Texts.{tokens_lexed, lexed_tokens}
 use Rattle.datum_reader.proofs.WholeTrees.{text_run, one_text}
 use Rattle.datum_reader.proofs.Lifts.{IsOn}
 use Rattle.datum_reader.proofs.Ends.{begins_on, on_begins, Shows}
@@ -121,11 +123,46 @@ answered text NoMemory h = absurd h.1
 
 -- Data are where no fault is told
 
+-- a text reads as these data, by its first tokens
+pub record Scanned (text : List ℕ) (d : Items) : Type 0 where
+  pub clean : (lexed text).ending ≡ Clean
+  pub trees : List Syntax
+  pub is_text : IsText max_depth (lexed text).tokens trees
+  pub read : d ≡ data_of trees
+
+pub scanned : (text : List ℕ) (d : Items) → Reads text d → Scanned text d
+scanned text d h =
+    let e = tokens_lexed (record { line = 1; col = 1 }) text h.tokens h.spelled in
+    let P : List Token → Type 0 = λ ts. IsText max_depth ts h.trees in
+    record {
+      clean = ap (λ l. l.ending) e;
+      trees = h.trees;
+      is_text = subst P (sym (ap (λ l. l.tokens) e)) h.is_text;
+      read = h.read;
+    }
+
+spelled : (text : List ℕ) (ts : List Token) (g : Ending) → lexed text ≡ record { tokens = ts; ending = g } → g ≡ Clean
+    → IsSpelled text ts
+spelled text ts g e clean =
+    lexed_tokens (record { line = 1; col = 1 }) text ts (e ∙ ap (λ x. record { tokens = ts; ending = x }) clean)
+
+pub reads_of : (text : List ℕ) (d : Items) → length text ≤ max_length → Scanned text d → Reads text d
+reads_of text d short h =
+    record {
+      short = short;
+      tokens = (lexed text).tokens;
+      spelled = spelled text (lexed text).tokens (lexed text).ending refl h.clean;
+      trees = h.trees;
+      is_text = h.is_text;
+      read = h.read;
+    }
+
 pub data_told : (text : List ℕ) (d : Items) → Reads text d → answer text ≡ None
 data_told text d h =
+    let s = scanned text d h in
     short_told text None h.short
-    (ap (told (reading (lexed text))) h.clean
-    ∙ ap (λ r. told r Clean) (text_run max_depth (lexed text).tokens h.trees h.is_text))
+    (ap (told (reading (lexed text))) s.clean
+    ∙ ap (λ r. told r Clean) (text_run max_depth (lexed text).tokens s.trees s.is_text))
 
 pub some_same : (d e : ReadErr) → Some d ≡ Some e → d ≡ e
 some_same d e h = cc
@@ -135,8 +172,10 @@ none_or_some e h = cc
 
 pub same_data : (text : List ℕ) (d e : Items) → Reads text d → Reads text e → d ≡ e
 same_data text d e h k =
-    h.read
-    ∙ (ap data_of (one_text max_depth (lexed text).tokens h.trees k.trees h.is_text k.is_text) ∙ sym k.read)
+    let s = scanned text d h in
+    let r = scanned text e k in
+    s.read
+    ∙ (ap data_of (one_text max_depth (lexed text).tokens s.trees r.trees s.is_text r.is_text) ∙ sym r.read)
 
 pub same_fault : (text : List ℕ) (d e : ReadErr) → ReadFault text d → ReadFault text e → d ≡ e
 same_fault text d e h k = some_same d e (sym (answered text d h) ∙ answered text e k)
@@ -178,7 +217,7 @@ short_answered text short =
           (λ clean.
           inl (
             data_of t.0,
-            record { short = short; clean = clean; trees = t.0; is_text = t.1; read = refl },
+            reads_of text (data_of t.0) short (record { clean = clean; trees = t.0; is_text = t.1; read = refl }),
           ))
       | inr f ↦ tokens_answered text f.0 f.1 short
     ]

@@ -16,7 +16,7 @@ use Rattle.datum_reader.specs.Machine.{Frame, Run, step, run, start}
 use Rattle.datum_reader.specs.Machine.Run.{On, Stray as StrayRun, Deep as DeepRun}
 use Rattle.datum_reader.specs.Reading.{IsAt, IsReading, Finishes}
 use Rattle.datum_reader.proofs.WholeTrees.{text_run}
-use Rattle.datum_reader.proofs.OneAnswer.{told, short_told, answered, data_told, some_answer, none_or_some, some_same, same_data, same_fault, data_or_fault}
+use Rattle.datum_reader.proofs.OneAnswer.{scanned, told, short_told, answered, data_told, some_answer, none_or_some, some_same, same_data, same_fault, data_or_fault}
 
 -- what is told of a reading and what is left
 abbrev pub told_left : Run → Lexed → Option ReadErr
@@ -43,8 +43,9 @@ data_read text n us short same clean =
     elim (some_answer text) [
       | inl d ↦
           let P : Items → Type 0 = λ x. Reads text x in
-          let trees = same_trees max_depth n d.1.trees us (sym (text_run max_depth (lexed text).tokens d.1.trees d.1.is_text) ∙ same) in
-          subst P (d.1.read ∙ ap data_of trees) d.1
+          let s = scanned text d.0 d.1 in
+          let trees = same_trees max_depth n s.trees us (sym (text_run max_depth (lexed text).tokens s.trees s.is_text) ∙ same) in
+          subst P (s.read ∙ ap data_of trees) d.1
       | inr f ↦
           let none : told_left (start max_depth) (lexed text) ≡ None =
           ap (λ r. told r (lexed text).ending) same ∙ ap (told (On n [] us)) clean in

@@ -4,10 +4,11 @@
 -- after which no such text goes on, or at what is still open at its end.
 use Rattle.std.specs.Prelude.{◌≡◌, ℕ, ◌<◌, ◌≤◌, List, length, ◌⊎◌, Result, Ok, Err}
 use Rattle.scheme_base.specs.declared.pos.Pos.{Pos}
-use Rattle.datum_form.specs.Syntax.{Syntax, IsText, Begins}
+use Rattle.datum_form.specs.Syntax.{Token, Syntax, IsText, Begins}
 use Rattle.datum_form.specs.Data.{Items, data_of}
 use Rattle.datum_form.specs.Stands.{Holds}
 use Rattle.datum_form.specs.declared.datums.Datums.{Datums}
+use Rattle.datum_form.specs.Grammar.{IsSpelled}
 use Rattle.datum_form.specs.Faults.{Strays, Deepens, Unclosed as UnclosedTokens}
 use Rattle.datum_form.specs.Text.{Ending, Lexed, lexed}
 use Rattle.datum_form.specs.Text.Ending.{Clean, BadAt, RangeAt, OpenAt}
@@ -22,12 +23,13 @@ max_length = 1048576
 abbrev pub max_depth : ℕ
 max_depth = 1000
 
--- a text reads as these data
+-- a text reads as these data: it is the tokens of some trees, which are these data
 pub record Reads (text : List ℕ) (data_read : Items) : Type 0 where
   pub short : length text ≤ max_length
-  pub clean : (lexed text).ending ≡ Clean
+  pub tokens : List Token
+  pub spelled : IsSpelled text tokens
   pub trees : List Syntax
-  pub is_text : IsText max_depth (lexed text).tokens trees
+  pub is_text : IsText max_depth tokens trees
   pub read : data_read ≡ data_of trees
 
 -- the tokens of a text begin a text, and then comes what is no token

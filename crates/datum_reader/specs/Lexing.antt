@@ -2,17 +2,12 @@
 use Rattle.std.specs.Prelude.{◌≡◌, ℕ, ◌+◌, ◌<◌, ◌≤◌, List, [], ◌∷◌, length}
 use Rattle.scheme_base.specs.declared.pos.Pos.{Pos}
 use Rattle.datum_form.specs.Syntax.{Token}
-use Rattle.datum_form.specs.Text.{Lexed, Ending, after_byte, lexed_after}
+use Rattle.datum_form.specs.Text.{Lexed, Ending, lexed_after}
 use Rattle.datum_form.specs.Text.Ending.{Clean, BadAt, RangeAt, OpenAt}
 use Rattle.datum_reader.specs.declared.lexer.Spot.{Spot}
 use Rattle.datum_reader.specs.declared.lexer.Next.{Next}
 use Rattle.datum_reader.specs.declared.lexer.Next.TheVariants as next
 use Rattle.datum_reader.specs.Found.{token_at}
-
--- the place after a text that begins at this place
-abbrev pub place_after : Pos → List ℕ → Pos
-place_after p [] = p
-place_after p (b ∷ bytes) = place_after (after_byte p b) bytes
 
 abbrev pub lexed_at : Spot → Lexed
 lexed_at spot = lexed_after 0 spot.pos spot.rest.now

@@ -1,7 +1,10 @@
-ghost use Rattle.std.specs.Prelude.{◌≡◌, ℕ, List, ◌⊎◌};
+ghost use Rattle.std.specs.Prelude.{◌≡◌, ◌↔◌, ℕ, List, ◌⊎◌};
 ghost use Rattle.datum_form.specs.Syntax.{Token, Syntax, IsText};
 ghost use Rattle.datum_form.specs.Faults.{Fault, HasFault};
 ghost use Rattle.datum_form.specs.Data.{Items};
+ghost use Rattle.datum_form.specs.Grammar.{IsSpelled};
+ghost use Rattle.datum_form.specs.Text.{lexed};
+ghost use Rattle.datum_form.specs.Text.Ending.{Clean};
 ghost use Rattle.datum_reader.specs.declared.error.ReadErr.{ReadErr};
 ghost use Rattle.datum_reader.specs.Answer.{Reads, ReadFault};
 
@@ -20,4 +23,10 @@ pub fn one_answer()
     ensures same_fault { (text : List ℕ) (d e : ReadErr) → ReadFault text d → ReadFault text e → d ≡ e }
     ensures apart { (text : List ℕ) (d : Items) (e : ReadErr) → Reads text d → ReadFault text e → ⊥ }
     ensures some { (text : List ℕ) → ((d : Items) × Reads text d) ⊎ ((e : ReadErr) × ReadFault text e) }
+{}
+
+/// The law that a text is tokens as R4RS writes them exactly where these are its first tokens, each as long
+/// as it can be, and nothing but them stands in it.
+pub fn same_texts()
+    ensures { (text : List ℕ) (ts : List Token) → IsSpelled text ts ↔ (lexed text ≡ record { tokens = ts; ending = Clean }) }
 {}

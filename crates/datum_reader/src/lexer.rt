@@ -1,5 +1,6 @@
 ghost use Rattle.std.specs.Prelude.{◌≡◌, ◌+◌, ◌^◌, ◌<◌, ◌≤◌, length, take, drop, IfOk};
-ghost use Rattle.datum_reader.specs.Lexing.{place_after, Scans, Shorter};
+ghost use Rattle.datum_form.specs.Grammar.{place_after};
+ghost use Rattle.datum_reader.specs.Lexing.{Scans, Shorter};
 
 use crate::piece::{Piece, first_piece};
 use crate::place::place_after;

@@ -25,5 +25,5 @@ mod token;
 mod word;
 
 pub use error::ReadErr;
-pub use law::{one_answer, one_reading};
+pub use law::{one_answer, one_reading, same_texts};
 pub use read::read_program;

@@ -1,6 +1,6 @@
 ghost use Rattle.std.specs.Prelude.{◌≡◌, ◌+◌, ◌^◌, ◌<◌, ◌≤◌, length};
 ghost use Rattle.datum_form.specs.Text.{after_byte};
-ghost use Rattle.datum_reader.specs.Lexing.{place_after};
+ghost use Rattle.datum_form.specs.Grammar.{place_after};
 
 use scheme_base::Pos;
 

@@ -2,7 +2,8 @@ use Rattle.std.proofs.Common.{◌≡◌, ◌<◌, length, take, drop, ap, sym, �
 use Rattle.datum_form.specs.Text.{lexed_after, piece}
 use Rattle.datum_form.specs.Text.Piece.{Blank, Found}
 use Rattle.datum_reader.specs.Found.{piece_at, token_at}
-use Rattle.datum_reader.specs.Lexing.{place_after, token_then}
+use Rattle.datum_form.specs.Grammar.{place_after}
+use Rattle.datum_reader.specs.Lexing.{token_then}
 use Rattle.datum_reader.proofs.Lexing.{piece_length_some, after_blank, at_token}
 use Rattle.datum_reader.proofs.lexer.next_token.Goals as goal
 

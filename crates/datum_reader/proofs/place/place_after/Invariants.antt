@@ -1,5 +1,5 @@
 use Rattle.std.proofs.Common.{◌≡◌, ◌+◌, ◌≤◌, length}
-use Rattle.datum_reader.specs.Lexing.{place_after}
+use Rattle.datum_form.specs.Grammar.{place_after}
 use Rattle.datum_reader.proofs.place.place_after.Given as goal
 
 -- what is left goes on to the same place

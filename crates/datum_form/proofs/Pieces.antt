@@ -1,0 +1,217 @@
+-- Tokens as R4RS writes them are the first pieces of texts, and no others are.
+use Rattle.std.proofs.Common.{◌≡◌, ◌≢◌, ℕ, suc, ◌+◌, Bool, true, false, List, [], ◌∷◌, ◌++◌, length, take, drop, refl, sym, ap, subst, ◌∙◌, append_assoc, length-append, arith, cond}
+use Rattle.std.proofs.Math.Seq.{take-append_seam}
+use Rattle.std.proofs.lemmas.List.{take-append-drop}
+use Rattle.std.proofs.lemmas.List.Folds.{length-prefix_len}
+use Rattle.std.specs.Prelude.{not, nat_eq, codes, slice_index, ◌==◌, ◌&&◌, ◌||◌}
+use Rattle.std.specs.Char.{is_ascii_whitespace}
+use Rattle.std.specs.List.{take_while, prefix_len}
+use Rattle.std.specs.Str.{str_to_ascii_lowercase}
+use Rattle.scheme_base.specs.declared.pos.Pos.{Pos}
+use Rattle.datum_form.specs.Grammar.{Delimited, Undelimited, NotNext, IsWord, IsCharacter, IsString, IsToken}
+use Rattle.datum_form.specs.Grammar.IsToken.{opens, opens_vector, closes, quote, quasiquote, splice, unquote, string, character, word}
+use Rattle.datum_form.specs.Syntax.{Token}
+use Rattle.datum_form.specs.Syntax.Atom.{Text, Character}
+use Rattle.datum_form.specs.Syntax.Mark.{Quote, Quasiquote, Unquote, Splice}
+use Rattle.datum_form.specs.Syntax.Token.{Open, OpenVector, Close, Marking, Single}
+use Rattle.datum_form.specs.Text.{Piece, Quoted, quoted, is_delimiter, run_length, word_piece, string_piece, character_piece, run_piece, mark_piece, token_piece, piece}
+use Rattle.datum_form.specs.Text.Piece.{Blank, Found, BadToken, BadNumber, OpenText}
+use Rattle.datum_form.specs.Text.Quoted.{Closed, BadEscape, NeverClosed}
+use Rattle.datum_form.specs.Words.{Word, begins_with, small_word, character_word}
+use Rattle.datum_form.specs.Words.Word.{IsToken as Is, OutOfRange, NoWord}
+use Rattle.datum_form.proofs.Numerals.{begins_one, begins_two}
+use Rattle.datum_form.proofs.Spelling.{word_read, word_written}
+use Rattle.datum_form.proofs.Strings.{character_read, character_written, string_read, string_written}
+
+apart : true ≡ false → ⊥
+apart e = cc
+
+-- Runs
+
+pub length_while-step : (p : ℕ → Bool) (b : ℕ) (bytes : List ℕ) → p b ≡ true
+    → length (take_while p (b ∷ bytes)) ≡ suc (length (take_while p bytes))
+length_while-step p b bytes h =
+    let one : prefix_len p (b ∷ bytes) ≡ 1 + prefix_len p bytes = rw h refl in
+    omega (arith, length-prefix_len p (b ∷ bytes), length-prefix_len p bytes, one)
+
+pub length_while-none : (p : ℕ → Bool) (b : ℕ) (bytes : List ℕ) → p b ≡ false → length (take_while p (b ∷ bytes)) ≡ 0
+length_while-none p b bytes h =
+    let none : prefix_len p (b ∷ bytes) ≡ 0 = rw h refl in
+    omega (arith, length-prefix_len p (b ∷ bytes), none)
+
+pub run_length-append : (run after : List ℕ) → Undelimited run → Delimited after → run_length (run ++ after) ≡ length run
+run_length-append [] [] r d = refl
+run_length-append [] (b ∷ after) r d = length_while-none (λ c. not (is_delimiter c)) b after (ap not d)
+run_length-append (b ∷ run) after r d =
+    length_while-step (λ c. not (is_delimiter c)) b (run ++ after) (ap not r.0)
+    ∙ ap (λ n. suc n) (run_length-append run after r.1 d)
+
+-- the bytes up to the first delimiter
+pub record Run (text : List ℕ) : Type 0 where
+  pub run : List ℕ
+  pub after : List ℕ
+  pub whole : text ≡ run ++ after
+  pub undelimited : Undelimited run
+  pub delimited : Delimited after
+
+pub run_of : (text : List ℕ) → Run text
+run_of [] = record { run = []; after = []; whole = refl; undelimited = tt; delimited = tt }
+run_of (b ∷ bytes) = at (is_delimiter b) refl (run_of bytes)
+  where
+    at : (d : Bool) → is_delimiter b ≡ d → Run bytes → Run (b ∷ bytes)
+    at true h r = record { run = []; after = b ∷ bytes; whole = refl; undelimited = tt; delimited = h }
+    at false h r =
+        record {
+          run = b ∷ r.run;
+          after = r.after;
+          whole = ap (λ l. b ∷ l) r.whole;
+          undelimited = (h, r.undelimited);
+          delimited = r.delimited;
+        }
+
+-- Each token is the first piece of what it begins
+
+-- none of the tests before the last holds
+record NoMark (b : ℕ) (bytes : List ℕ) : Type 0 where
+  white : is_ascii_whitespace b ≡ false
+  comment : nat_eq 59 b ≡ false
+  opener : nat_eq 40 b ≡ false
+  vector : begins_with (b ∷ bytes) (codes "#(") ≡ false
+  closer : nat_eq 41 b ≡ false
+  text : nat_eq 34 b ≡ false
+  quoted : nat_eq 39 b ≡ false
+  quasi : nat_eq 96 b ≡ false
+  comma : nat_eq 44 b ≡ false
+  char : begins_with (b ∷ bytes) (codes "#\\") ≡ false
+
+abbrev small : Pos → List ℕ → (n : ℕ) → Piece
+small p text n = word_piece (small_word p (str_to_ascii_lowercase (take n text))) n
+
+no_mark : (p : Pos) (b : ℕ) (bytes : List ℕ) → NoMark b bytes → piece p (b ∷ bytes) ≡ small p (b ∷ bytes) (run_length (b ∷ bytes))
+no_mark p b bytes m =
+    rw (m.white, m.comment, m.opener, m.vector, m.closer, m.text, m.quoted, m.quasi, m.comma, m.char) refl
+
+same_byte : (k b : ℕ) → nat_eq k b ≡ true → b ≡ k
+same_byte k b e = grind arith
+
+no_token : (t : Token) → NoWord ≡ Is t → ⊥
+no_token t e = cc
+
+-- a byte that begins no word
+begins_none : (p : Pos) (k b : ℕ) (more : List ℕ) (t : Token) → IsWord p (str_to_ascii_lowercase (b ∷ more)) t
+    → small_word p (str_to_ascii_lowercase (k ∷ more)) ≡ NoWord → nat_eq k b ≡ false
+begins_none p k b more t h none = at (nat_eq k b) refl
+  where
+    at : (x : Bool) → nat_eq k b ≡ x → x ≡ false
+    at false e = refl
+    at true e =
+        absurd
+        (no_token t
+        (sym none
+        ∙ (ap (λ c. small_word p (str_to_ascii_lowercase (c ∷ more))) (sym (same_byte k b e))
+        ∙ word_read p (str_to_ascii_lowercase (b ∷ more)) t h)))
+
+undelimited_byte : (b : ℕ) → is_delimiter b ≡ false
+    → (is_ascii_whitespace b ≡ false) × (nat_eq 40 b ≡ false) × (nat_eq 41 b ≡ false) × (nat_eq 34 b ≡ false) × (nat_eq 59 b ≡ false)
+undelimited_byte b h = (grind arith, grind arith, grind arith, grind arith, grind arith)
+
+-- a `#` and a byte that begin no word
+hash_none : (p : Pos) (k b : ℕ) (more after : List ℕ) (t : Token) → IsWord p (str_to_ascii_lowercase (b ∷ more)) t
+    → ((c : ℕ) (rest : List ℕ) → more ≡ c ∷ rest → nat_eq 35 b ≡ true → nat_eq k c ≡ false)
+    → begins_with ((b ∷ more) ++ after) (35 ∷ k ∷ []) ≡ false
+hash_none p k b [] after t h next = rw (begins_none p 35 b [] t h refl) refl
+hash_none p k b (c ∷ rest) after t h next = at (nat_eq 35 b) refl
+  where
+    at : (x : Bool) → nat_eq 35 b ≡ x → (x && (nat_eq k c && true)) ≡ false
+    at false e = refl
+    at true e = ap (λ y. y && true) (next c rest refl e)
+
+two_none : (p : Pos) (b c : ℕ) (rest : List ℕ) (t : Token) → IsWord p (str_to_ascii_lowercase (b ∷ c ∷ rest)) t
+    → nat_eq 35 b ≡ true → nat_eq 92 c ≡ false
+two_none p b c rest t h hash = at (nat_eq 92 c) refl
+  where
+    at : (x : Bool) → nat_eq 92 c ≡ x → x ≡ false
+    at false e = refl
+    at true e =
+        let none : small_word p (str_to_ascii_lowercase (35 ∷ 92 ∷ rest)) ≡ NoWord = refl in
+        absurd
+        (no_token t
+        (sym none
+        ∙ (ap (λ d. small_word p (str_to_ascii_lowercase (35 ∷ d ∷ rest))) (sym (same_byte 92 c e))
+        ∙ (ap (λ d. small_word p (str_to_ascii_lowercase (d ∷ c ∷ rest))) (sym (same_byte 35 b hash))
+        ∙ word_read p (str_to_ascii_lowercase (b ∷ c ∷ rest)) t h))))
+
+word_marks : (p : Pos) (b : ℕ) (more after : List ℕ) (t : Token) → Undelimited (b ∷ more)
+    → IsWord p (str_to_ascii_lowercase (b ∷ more)) t → NoMark b (more ++ after)
+word_marks p b more after t u h =
+    let d = undelimited_byte b u.0 in
+    record {
+      white = d.0;
+      comment = d.4;
+      opener = d.1;
+      vector =
+          hash_none p 40 b more after t h
+          (λ c rest e hash.
+          let P : List ℕ → Type 0 = λ l. Undelimited l in (undelimited_byte c (subst P e u.1).0).1);
+      closer = d.2;
+      text = d.3;
+      quoted = begins_none p 39 b more t h refl;
+      quasi = begins_none p 96 b more t h refl;
+      comma = begins_none p 44 b more t h refl;
+      char =
+          hash_none p 92 b more after t h
+          (λ c rest e hash.
+          let P : List ℕ → Type 0 = λ l. IsWord p (str_to_ascii_lowercase (b ∷ l)) t in
+          two_none p b c rest t (subst P e h) hash);
+    }
+
+no_word : (p : Pos) (t : Token) → IsWord p [] t → ⊥
+no_word p t h = no_token t (word_read p [] t h)
+
+found_word : (p : Pos) (bytes after : List ℕ) (t : Token) → Undelimited bytes → Delimited after
+    → IsWord p (str_to_ascii_lowercase bytes) t → piece p (bytes ++ after) ≡ Found t (length bytes)
+found_word p [] after t u d h = absurd (no_word p t h)
+found_word p (b ∷ more) after t u d h =
+    let text : List ℕ = (b ∷ more) ++ after in
+    no_mark p b (more ++ after) (word_marks p b more after t u h)
+    ∙ (ap (small p text) (run_length-append (b ∷ more) after u d)
+    ∙ (ap (λ l. word_piece (small_word p (str_to_ascii_lowercase l)) (length (b ∷ more))) (take-append_seam (b ∷ more) after)
+    ∙ ap (λ w. word_piece w (length (b ∷ more))) (word_read p (str_to_ascii_lowercase (b ∷ more)) t h)))
+
+found_character : (p : Pos) (b c : ℕ) (more after : List ℕ) → Undelimited more → Delimited after
+    → IsCharacter (35 ∷ 92 ∷ b ∷ more) c
+    → piece p ((35 ∷ 92 ∷ b ∷ more) ++ after) ≡ Found (Single p (Character c)) (length (35 ∷ 92 ∷ b ∷ more))
+found_character p b c more after u d h =
+    let text : List ℕ = (35 ∷ 92 ∷ b ∷ more) ++ after in
+    let start : List ℕ = 35 ∷ 92 ∷ b ∷ more in
+    let count : 3 + length more ≡ length start = omega arith in
+    ap (λ n. word_piece (character_word p (take (3 + n) text)) (3 + n)) (run_length-append more after u d)
+    ∙ (ap (λ n. word_piece (character_word p (take n text)) n) count
+    ∙ (ap (λ l. word_piece (character_word p l) (length start)) (take-append_seam start after)
+    ∙ ap (λ w. word_piece w (length start)) (character_read p start c h)))
+
+found_string : (p : Pos) (text bytes after : List ℕ) → IsString text bytes
+    → piece p ((34 ∷ (text ++ 34 ∷ [])) ++ after) ≡ Found (Single p (Text bytes)) (length (34 ∷ (text ++ 34 ∷ [])))
+found_string p text bytes after h =
+    let count : (length text + 1) + 1 ≡ length (34 ∷ (text ++ 34 ∷ [])) = omega (arith, length-append text (34 ∷ [])) in
+    ap (λ l. string_piece p (quoted false l)) (append_assoc text (34 ∷ []) after)
+    ∙ (ap (string_piece p) (string_read text bytes after h) ∙ ap (Found (Single p (Text bytes))) count)
+
+found_comma : (p : Pos) (after : List ℕ) → NotNext 64 after → piece p (44 ∷ after) ≡ Found (Marking p Unquote) 1
+found_comma p [] h = refl
+found_comma p (c ∷ rest) h =
+    let other : nat_eq 64 c ≡ false = grind arith in
+    rw other refl
+
+pub token_found : (p : Pos) (bytes after : List ℕ) (t : Token) → IsToken p bytes after t
+    → piece p (bytes ++ after) ≡ Found t (length bytes)
+token_found p bytes after t (opens q a) = refl
+token_found p bytes after t (opens_vector q a) = refl
+token_found p bytes after t (closes q a) = refl
+token_found p bytes after t (quote q a) = refl
+token_found p bytes after t (quasiquote q a) = refl
+token_found p bytes after t (splice q a) = refl
+token_found p bytes after t (unquote q a h) = found_comma p after h
+token_found p bytes after t (string q a text read h) = found_string p text read after h
+token_found p bytes after t (character q a b more c u d h) = found_character p b c more after u d h
+token_found p bytes after t (word q a w u undelimited d h) = found_word p bytes after t undelimited d h
