@@ -4,5 +4,6 @@ pub mod Grown
 pub mod Numerals
 pub mod OneDatum
 pub mod Pieces
+pub mod Printing
 pub mod Spelling
 pub mod Strings

@@ -1,6 +1,8 @@
 pub mod Data
 pub mod Faults
 pub mod Grammar
+pub mod Pending
+pub mod Print
 pub mod Stands
 pub mod Syntax
 pub mod Text

@@ -15,6 +15,7 @@ use Rattle.datum_form.specs.Data.Datum.{Single, Chain, Dotted, Row}
 use Rattle.datum_form.specs.Data.Items.{none, item}
 use Rattle.datum_form.specs.Stands.{kind_of, IsNode, Stands, StandAll}
 use Rattle.datum_form.proofs.Grown.{grown, grown_all}
+use Rattle.datum_form.proofs.Printing.{no_list}
 use Rattle.datum_reader.specs.Machine.{rest_of, elements_of}
 use Rattle.datum_reader.specs.Nodes.{Builds, append, tailed}
 
@@ -100,13 +101,6 @@ all_append nodes xs ys none js h k =
     subst P (sym h) k
 all_append nodes xs ys (item d is) js h k =
     (h.0, h.1 ++ ys, ap (λ zs. zs ++ ys) h.2, h.3, all_append nodes h.1 ys is js h.4 k)
-
-no_list : (a : Atom) (ids : Seq ℕ) (end : Option ℕ) → kind_of a ≡ kind.List ids end → ⊥
-no_list (Integer n) ids end e = cc
-no_list (Boolean b) ids end e = cc
-no_list (Character c) ids end e = cc
-no_list (Text bytes) ids end e = cc
-no_list (Name bytes) ids end e = cc
 
 abbrev pub node : Kind → Pos → Option Node
 node k p = Some (record { kind = k; pos = p })

@@ -1,11 +1,15 @@
-//! Reads a text as data, or finds its one fault. So far: what a text is, the laws by which it is read, the
-//! code that finds a text's next token, and the nodes and levels of what is open.
+//! Reads a text as data, or finds its first fault.
 //!
 //! What the tokens of a text are, and which tokens are a text, is said in datum_form by whole texts.
-//! `specs/Answer` says which data a text reads as, and which fault it has; `one_answer` is the law that it
-//! has one of these, and only one. The machine of `specs/Machine` reads tokens from left to right with a
-//! stack, and `proofs/` show that it ends with the trees exactly where there are some, and with the fault
-//! and its place where there are none. No contract names the machine.
+//! `specs/Answer` says which data a text reads as, and which fault it has: `read_program` answers these, and
+//! only want of memory is free. `one_answer` is the law that a text has one answer, `one_reading` the same of
+//! tokens, and `same_texts` that the tokens which are found from left to right are those of the grammar.
+//!
+//! The code finds a text's next token (`lexer`, `piece`, `word`, `number`, `string`, `place`) and gives it to
+//! what is open (`reading`, `level`), where it becomes nodes (`nodes`). A token is looked at once, and a
+//! string or a name is taken over in pieces. `specs/Machine` is what the code does to a token, by trees in
+//! place of nodes; `proofs/` show that it ends with the trees of the text exactly where there are some, and
+//! with the fault and its place where there are none. No contract of a public function names it.
 #![tactic(auto)]
 
 mod error;

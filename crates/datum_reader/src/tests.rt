@@ -1,107 +1,9 @@
 mod rows;
 
 use crate::{ReadErr, read_program};
-use datum_form::{Datums, Kind};
+use datum_form::write_text;
 use std::alloc::Global;
 use std::test::Fail;
-
-/// What is still to be printed.
-#[derive(Drop)]
-enum Part {
-    Datum(u32),
-    Word(&'static str),
-}
-
-/// The most parts that a text of the table has.
-const MOST_PARTS: usize = 20_000;
-
-/// The data of a text, one a line, without places.
-fn printed(alloc: Global, datums: &Datums) -> Result<Vec<u8>, Fail> {
-    let mut text = Vec::new(alloc);
-    let mut parts = Vec::new(alloc);
-    push_all(&mut parts, datums.tops.as_slice(), "\n")?;
-    for _turn in 0..MOST_PARTS {
-        let Some(part) = parts.pop() else {
-            return Ok(text);
-        };
-        match part {
-            Part::Word(word) => text.extend_from_slice(word.as_bytes())?,
-            Part::Datum(id) => {
-                let node = datums.nodes.get(id as usize).ok_or("a number of a node")?;
-                print_kind(alloc, &node.kind, &mut text, &mut parts)?;
-            }
-        }
-    }
-    Err("too many parts".into())
-}
-
-/// Prints the beginning of a datum, and puts what follows before the other parts.
-fn print_kind(
-    alloc: Global,
-    kind: &Kind,
-    text: &mut Vec<u8>,
-    parts: &mut Vec<Part>,
-) -> Result<(), Fail> {
-    match kind {
-        Kind::Integer(value) => text.extend_from_slice(format!(in alloc; "{value}")?.as_bytes())?,
-        Kind::Boolean(value) => text.extend_from_slice(if *value { b"#t" } else { b"#f" })?,
-        Kind::Char(byte) => print_character(*byte, text)?,
-        Kind::Text(bytes) => print_string(bytes.as_slice(), text)?,
-        Kind::Name(bytes) => text.extend_from_slice(bytes.as_slice())?,
-        Kind::List { items, tail } => {
-            text.push(b'(')?;
-            parts.push(Part::Word(")"))?;
-            if let Some(id) = tail {
-                parts.push(Part::Datum(*id))?;
-                parts.push(Part::Word(" . "))?;
-            }
-            push_all(parts, items.as_slice(), " ")?;
-        }
-        Kind::Vector { items } => {
-            text.extend_from_slice(b"#(")?;
-            parts.push(Part::Word(")"))?;
-            push_all(parts, items.as_slice(), " ")?;
-        }
-    }
-    Ok(())
-}
-
-/// Puts data before the other parts, with a word between two.
-fn push_all(parts: &mut Vec<Part>, ids: &[u32], between: &'static str) -> Result<(), Fail> {
-    let mut last = true;
-    for id in ids.iter().rev() {
-        if !last {
-            parts.push(Part::Word(between))?;
-        }
-        parts.push(Part::Datum(*id))?;
-        last = false;
-    }
-    Ok(())
-}
-
-fn print_character(byte: u8, text: &mut Vec<u8>) -> Result<(), Fail> {
-    match byte {
-        b' ' => text.extend_from_slice(b"#\\space")?,
-        b'\n' => text.extend_from_slice(b"#\\newline")?,
-        _ => {
-            text.extend_from_slice(b"#\\")?;
-            text.push(byte)?;
-        }
-    }
-    Ok(())
-}
-
-fn print_string(bytes: &[u8], text: &mut Vec<u8>) -> Result<(), Fail> {
-    text.push(b'"')?;
-    for byte in bytes {
-        if *byte == b'"' || *byte == b'\\' {
-            text.push(b'\\')?;
-        }
-        text.push(*byte)?;
-    }
-    text.push(b'"')?;
-    Ok(())
-}
 
 /// A fault and its place.
 fn told(alloc: Global, err: &ReadErr) -> Result<String, Fail> {
@@ -121,7 +23,7 @@ fn told(alloc: Global, err: &ReadErr) -> Result<String, Fail> {
 /// The data of a text, printed, or its fault.
 fn answer(alloc: Global, text: &[u8]) -> Result<Vec<u8>, Fail> {
     match read_program(alloc, text) {
-        Ok(datums) => printed(alloc, &datums),
+        Ok(datums) => Ok(write_text(alloc, &datums)?),
         Err(err) => Ok(told(alloc, &err)?.as_bytes().to_vec(alloc)?),
     }
 }
@@ -143,6 +45,9 @@ fn texts(rt: HostRuntime) -> Result<(), Fail> {
     for table in tables {
         for (text, want) in table {
             assert_eq!(rt; answer(rt.alloc(), text)?.as_slice(), *want);
+            if want.ends_with(b"\n") {
+                assert_eq!(rt; answer(rt.alloc(), want)?.as_slice(), *want, "printed data");
+            }
         }
     }
     Ok(())
