@@ -4,6 +4,7 @@ pub mod Grown
 pub mod Numerals
 pub mod OneDatum
 pub mod Pieces
+pub mod Printed
 pub mod Printing
 pub mod Spelling
 pub mod Strings

@@ -58,3 +58,19 @@ abbrev mutual
 abbrev pub data_of : List Syntax → Items
 data_of [] = none
 data_of (s ∷ ss) = item (datum_of s) (data_of ss)
+
+-- Data without their places
+
+abbrev pub nowhere : Pos
+nowhere = record { line = 0; col = 0 }
+
+abbrev mutual
+  pub unplaced : Datum → Datum
+  unplaced (Single p a) = Single nowhere a
+  unplaced (Chain p is) = Chain nowhere (unplaced_all is)
+  unplaced (Dotted p is d) = Dotted nowhere (unplaced_all is) (unplaced d)
+  unplaced (Row p is) = Row nowhere (unplaced_all is)
+
+  pub unplaced_all : Items → Items
+  unplaced_all none = none
+  unplaced_all (item d is) = item (unplaced d) (unplaced_all is)

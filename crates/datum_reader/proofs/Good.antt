@@ -67,21 +67,21 @@ pub within-append : (is : List Syntax) (s : Syntax) (n : ℕ) → WithinAll n is
 within-append [] s n h k = (k, tt)
 within-append (i ∷ is) s n h k = (h.0, within-append is s n h.1 k)
 
-written_rest_of : (is : List Syntax) (r : Rest) (ts : List Token)
+pub written_rest_of : (is : List Syntax) (r : Rest) (ts : List Token)
     → written_rest (rest_of is r) ts ≡ written_all is (written_rest r ts)
 written_rest_of [] r ts = refl
 written_rest_of (i ∷ is) r ts = ap (written i) (written_rest_of is r ts)
 
-written_elements_of : (is : List Syntax) (e : Elements) (ts : List Token)
+pub written_elements_of : (is : List Syntax) (e : Elements) (ts : List Token)
     → written_elements (elements_of is e) ts ≡ written_all is (written_elements e ts)
 written_elements_of [] e ts = refl
 written_elements_of (i ∷ is) e ts = ap (written i) (written_elements_of is e ts)
 
-within_rest_of : (is : List Syntax) (r : Rest) (n : ℕ) → WithinAll n is → WithinRest n r → WithinRest n (rest_of is r)
+pub within_rest_of : (is : List Syntax) (r : Rest) (n : ℕ) → WithinAll n is → WithinRest n r → WithinRest n (rest_of is r)
 within_rest_of [] r n h k = k
 within_rest_of (i ∷ is) r n h k = (h.0, within_rest_of is r n h.1 k)
 
-within_elements_of : (is : List Syntax) (e : Elements) (n : ℕ) → WithinAll n is → WithinElements n e
+pub within_elements_of : (is : List Syntax) (e : Elements) (n : ℕ) → WithinAll n is → WithinElements n e
     → WithinElements n (elements_of is e)
 within_elements_of [] e n h k = k
 within_elements_of (i ∷ is) e n h k = (h.0, within_elements_of is e n h.1 k)

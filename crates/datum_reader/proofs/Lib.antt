@@ -1,3 +1,4 @@
+pub mod Again
 pub mod Builds
 pub mod Ends
 pub mod Good
@@ -7,6 +8,7 @@ pub mod Lifts
 pub mod Numbers
 pub mod OneAnswer
 pub mod OneReading
+pub mod Spelled
 pub mod States
 pub mod Strings
 pub mod Takes

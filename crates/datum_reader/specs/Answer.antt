@@ -5,7 +5,8 @@
 use Rattle.std.specs.Prelude.{◌≡◌, ℕ, ◌<◌, ◌≤◌, List, length, ◌⊎◌, Result, Ok, Err}
 use Rattle.scheme_base.specs.declared.pos.Pos.{Pos}
 use Rattle.datum_form.specs.Syntax.{Token, Syntax, IsText, Begins}
-use Rattle.datum_form.specs.Data.{Items, data_of}
+use Rattle.datum_form.specs.Data.{Items, data_of, unplaced_all}
+use Rattle.datum_form.specs.Print.{lines_of}
 use Rattle.datum_form.specs.Stands.{Holds}
 use Rattle.datum_form.specs.declared.datums.Datums.{Datums}
 use Rattle.datum_form.specs.Grammar.{IsSpelled}
@@ -31,6 +32,15 @@ pub record Reads (text : List ℕ) (data_read : Items) : Type 0 where
   pub trees : List Syntax
   pub is_text : IsText max_depth tokens trees
   pub read : data_read ≡ data_of trees
+
+-- these data are printed as a text that reads as the same data, places aside; it may be longer than a text
+-- that is read
+pub record ReadsAgain (data_printed : Items) : Type 0 where
+  pub tokens : List Token
+  pub spelled : IsSpelled (lines_of data_printed) tokens
+  pub trees : List Syntax
+  pub is_text : IsText max_depth tokens trees
+  pub same : unplaced_all (data_of trees) ≡ unplaced_all data_printed
 
 -- the tokens of a text begin a text, and then comes what is no token
 pub record Breaks (lex : Lexed) (ending : Ending) : Type 0 where

@@ -6,7 +6,7 @@ ghost use Rattle.datum_form.specs.Grammar.{IsSpelled};
 ghost use Rattle.datum_form.specs.Text.{lexed};
 ghost use Rattle.datum_form.specs.Text.Ending.{Clean};
 ghost use Rattle.datum_reader.specs.declared.error.ReadErr.{ReadErr};
-ghost use Rattle.datum_reader.specs.Answer.{Reads, ReadFault};
+ghost use Rattle.datum_reader.specs.Answer.{Reads, ReadFault, ReadsAgain};
 
 /// The law that a list of tokens is a text of one list of trees, or else has one fault at one place,
 /// whatever depth of nesting is allowed.
@@ -29,4 +29,10 @@ pub fn one_answer()
 /// as it can be, and nothing but them stands in it.
 pub fn same_texts()
     ensures { (text : List ℕ) (ts : List Token) → IsSpelled text ts ↔ (lexed text ≡ record { tokens = ts; ending = Clean }) }
+{}
+
+/// The law that data which a text reads as are printed as a text that reads as the same data, places aside.
+/// Together with `write_text`, which prints this text, it says that nothing is lost by printing.
+pub fn printed_data()
+    ensures { (text : List ℕ) (is : Items) → Reads text is → ReadsAgain is }
 {}

@@ -1,0 +1,5 @@
+use Rattle.datum_reader.proofs.Again.{reads_again}
+use Rattle.datum_reader.proofs.law.printed_data.Goals as goal
+
+pub returns : goal.returns
+returns c = reads_again
