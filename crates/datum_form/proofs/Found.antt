@@ -1,23 +1,22 @@
 -- A text's first piece that is a token is one as R4RS writes it.
-use Rattle.std.proofs.Common.{◌≡◌, ◌≢◌, ℕ, suc, ◌+◌, Bool, true, false, List, [], ◌∷◌, ◌++◌, length, take, drop, refl, sym, ap, subst, ◌∙◌, append_assoc, length-append, arith, cond}
+use Rattle.std.proofs.Common.{◌≡◌, ◌≢◌, ℕ, ◌+◌, Bool, true, false, List, [], ◌∷◌, ◌++◌, length, take, drop, refl, sym, ap, subst, ◌∙◌, append_assoc, length-append, arith, cond}
 use Rattle.std.proofs.Math.Seq.{take-append_seam}
-use Rattle.std.specs.Prelude.{nat_eq, codes, slice_index, ◌&&◌}
-use Rattle.std.specs.Char.{is_ascii_whitespace}
+use Rattle.std.specs.Prelude.{codes}
 use Rattle.std.specs.Str.{str_to_ascii_lowercase}
 use Rattle.scheme_base.specs.declared.pos.Pos.{Pos}
-use Rattle.datum_form.specs.Grammar.{Delimited, Undelimited, NotNext, IsOneLine, AtLineEnd, IsToken}
+use Rattle.datum_form.specs.Grammar.{IsToken}
 use Rattle.datum_form.specs.Grammar.IsToken.{opens, opens_vector, closes, quote, quasiquote, splice, unquote, string, character, word}
 use Rattle.datum_form.specs.Syntax.{Token}
-use Rattle.datum_form.specs.Syntax.Atom.{Text, Character}
+use Rattle.datum_form.specs.Syntax.Atom.{Text}
 use Rattle.datum_form.specs.Syntax.Mark.{Quote, Quasiquote, Unquote, Splice}
 use Rattle.datum_form.specs.Syntax.Token.{Open, OpenVector, Close, Marking, Single}
-use Rattle.datum_form.specs.Text.{Piece, Quoted, quoted, is_line_end, run_length, line_length, word_piece, string_piece, character_piece, run_piece, mark_piece, token_piece, piece}
-use Rattle.datum_form.specs.Text.Piece.{Blank, Found, BadToken, BadNumber, OpenText}
+use Rattle.datum_form.specs.Text.{Quoted, quoted, run_length, word_piece, string_piece, character_piece, run_piece, mark_piece, token_piece}
+use Rattle.datum_form.specs.Text.Piece.{Found}
 use Rattle.datum_form.specs.Text.Quoted.{Closed, BadEscape, NeverClosed}
 use Rattle.datum_form.specs.Words.{Word, begins_with, small_word, character_word}
 use Rattle.datum_form.specs.Words.Word.{IsToken as Is, OutOfRange, NoWord}
 use Rattle.datum_form.proofs.Numerals.{begins_one, begins_two}
-use Rattle.datum_form.proofs.Pieces.{Run, run_of, run_length-append}
+use Rattle.datum_form.proofs.Pieces.{run_of, run_length-append}
 use Rattle.datum_form.proofs.Spelling.{word_written}
 use Rattle.datum_form.proofs.Strings.{character_written, string_written}
 
@@ -168,4 +167,3 @@ front_token p text t n e =
         let P : List ℕ → Type 0 = λ l. Front p l t n in
         subst P (sym (begins_one text 34 hd)) (front_string p (drop 1 text) t n (quoted false (drop 1 text)) refl f)
     at false false false false ha hb hc hd f = front_mark p text t n f
-

@@ -1,5 +1,5 @@
 -- A number as R4RS writes it is the number that a word is, and no other word is one.
-use Rattle.std.proofs.Common.{◌≡◌, ℕ, zero, suc, ◌+◌, ◌*◌, ◌<◌, Bool, true, false, List, [], ◌∷◌, ◌++◌, Option, Some, None, refl, sym, ap, subst, ◌∙◌, drop, append_assoc, arith, cond}
+use Rattle.std.proofs.Common.{◌≡◌, ℕ, ◌+◌, ◌*◌, Bool, true, false, List, [], ◌∷◌, ◌++◌, Option, Some, None, refl, sym, ap, ◌∙◌, drop, append_assoc, arith, cond}
 use Rattle.std.specs.Prelude.{ℤ, pos, neg_ℤ, nat_eq, nat_lt, codes, ◌&&◌, ◌||◌}
 use Rattle.std.specs.Option.{option_map}
 use Rattle.datum_form.specs.Grammar.{IsRadix, IsExactness, IsPrefix, IsSign, IsNumber, with_sign}
@@ -7,7 +7,7 @@ use Rattle.datum_form.specs.Grammar.IsRadix.{binary, octal, decimal, marked_deci
 use Rattle.datum_form.specs.Grammar.IsExactness.{unmarked, exact}
 use Rattle.datum_form.specs.Grammar.IsPrefix.{radix_first, exactness_first}
 use Rattle.datum_form.specs.Grammar.IsSign.{unsigned, plus, minus}
-use Rattle.datum_form.specs.Words.{begins_with, digit, digits, digits_after, signed, number, has_radix, radix_of, after_radix, after_exact}
+use Rattle.datum_form.specs.Words.{begins_with, digit, digits, digits_after, signed, number, radix_of, after_radix, after_exact}
 
 apart : true ≡ false → ⊥
 apart e = cc
@@ -171,20 +171,38 @@ signed_parts r text z e = at (begins_with text (codes "-")) (begins_with text (c
     at true p hm hp h =
         let v = value_of (λ n. neg_ℤ (pos n)) (digits r (drop 1 text)) z h in
         record {
-          negative = true; sign = codes "-"; number = drop 1 text; value = v.0; has_sign = minus;
-          has_value = v.1; whole = begins_one text 45 hm; is = v.2;
+          negative = true;
+          sign = codes "-";
+          number = drop 1 text;
+          value = v.0;
+          has_sign = minus;
+          has_value = v.1;
+          whole = begins_one text 45 hm;
+          is = v.2;
         }
     at false true hm hp h =
         let v = value_of (λ n. pos n) (digits r (drop 1 text)) z h in
         record {
-          negative = false; sign = codes "+"; number = drop 1 text; value = v.0; has_sign = plus;
-          has_value = v.1; whole = begins_one text 43 hp; is = v.2;
+          negative = false;
+          sign = codes "+";
+          number = drop 1 text;
+          value = v.0;
+          has_sign = plus;
+          has_value = v.1;
+          whole = begins_one text 43 hp;
+          is = v.2;
         }
     at false false hm hp h =
         let v = value_of (λ n. pos n) (digits r text) z h in
         record {
-          negative = false; sign = []; number = text; value = v.0; has_sign = unsigned;
-          has_value = v.1; whole = refl; is = v.2;
+          negative = false;
+          sign = [];
+          number = text;
+          value = v.0;
+          has_sign = unsigned;
+          has_value = v.1;
+          whole = refl;
+          is = v.2;
         }
 
 record RadixPart (text : List ℕ) (r : ℕ) (after : List ℕ) : Type 0 where

@@ -1,9 +1,8 @@
 -- Tokens as R4RS writes them are the first pieces of texts, and no others are.
-use Rattle.std.proofs.Common.{◌≡◌, ◌≢◌, ℕ, suc, ◌+◌, Bool, true, false, List, [], ◌∷◌, ◌++◌, length, take, drop, refl, sym, ap, subst, ◌∙◌, append_assoc, length-append, arith, cond}
+use Rattle.std.proofs.Common.{◌≡◌, ℕ, suc, ◌+◌, Bool, true, false, List, [], ◌∷◌, ◌++◌, length, take, refl, sym, ap, subst, ◌∙◌, append_assoc, length-append, arith}
 use Rattle.std.proofs.Math.Seq.{take-append_seam}
-use Rattle.std.proofs.lemmas.List.{take-append-drop}
 use Rattle.std.proofs.lemmas.List.Folds.{length-prefix_len}
-use Rattle.std.specs.Prelude.{not, nat_eq, codes, slice_index, ◌==◌, ◌&&◌, ◌||◌}
+use Rattle.std.specs.Prelude.{not, nat_eq, codes, ◌&&◌}
 use Rattle.std.specs.Char.{is_ascii_whitespace}
 use Rattle.std.specs.List.{take_while, prefix_len}
 use Rattle.std.specs.Str.{str_to_ascii_lowercase}
@@ -12,16 +11,14 @@ use Rattle.datum_form.specs.Grammar.{Delimited, Undelimited, NotNext, IsWord, Is
 use Rattle.datum_form.specs.Grammar.IsToken.{opens, opens_vector, closes, quote, quasiquote, splice, unquote, string, character, word}
 use Rattle.datum_form.specs.Syntax.{Token}
 use Rattle.datum_form.specs.Syntax.Atom.{Text, Character}
-use Rattle.datum_form.specs.Syntax.Mark.{Quote, Quasiquote, Unquote, Splice}
-use Rattle.datum_form.specs.Syntax.Token.{Open, OpenVector, Close, Marking, Single}
-use Rattle.datum_form.specs.Text.{Piece, Quoted, quoted, is_delimiter, run_length, word_piece, string_piece, character_piece, run_piece, mark_piece, token_piece, piece}
-use Rattle.datum_form.specs.Text.Piece.{Blank, Found, BadToken, BadNumber, OpenText}
-use Rattle.datum_form.specs.Text.Quoted.{Closed, BadEscape, NeverClosed}
-use Rattle.datum_form.specs.Words.{Word, begins_with, small_word, character_word}
-use Rattle.datum_form.specs.Words.Word.{IsToken as Is, OutOfRange, NoWord}
-use Rattle.datum_form.proofs.Numerals.{begins_one, begins_two}
-use Rattle.datum_form.proofs.Spelling.{word_read, word_written}
-use Rattle.datum_form.proofs.Strings.{character_read, character_written, string_read, string_written}
+use Rattle.datum_form.specs.Syntax.Mark.{Unquote}
+use Rattle.datum_form.specs.Syntax.Token.{Marking, Single}
+use Rattle.datum_form.specs.Text.{Piece, quoted, is_delimiter, run_length, word_piece, string_piece, piece}
+use Rattle.datum_form.specs.Text.Piece.{Found}
+use Rattle.datum_form.specs.Words.{begins_with, small_word, character_word}
+use Rattle.datum_form.specs.Words.Word.{IsToken as Is, NoWord}
+use Rattle.datum_form.proofs.Spelling.{word_read}
+use Rattle.datum_form.proofs.Strings.{character_read, string_read}
 
 apart : true ≡ false → ⊥
 apart e = cc

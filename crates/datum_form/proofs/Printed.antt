@@ -1,6 +1,6 @@
 -- A datum without parts is printed as a token as R4RS writes it.
-use Rattle.std.proofs.Common.{◌≡◌, ◌≢◌, ℕ, zero, suc, ◌+◌, ◌*◌, ◌/◌, ◌%◌, ◌<◌, ◌≤◌, ◌^◌, Bool, true, false, List, [], ◌∷◌, ◌++◌, Some, None, map, refl, sym, ap, subst, ◌∙◌, arith, cond}
-use Rattle.std.specs.Prelude.{ℤ, pos, negsuc, nat_lt, nat_eq, int_le, codes, ◌==◌, ◌&&◌, ◌||◌}
+use Rattle.std.proofs.Common.{◌≡◌, ◌≢◌, ℕ, zero, suc, ◌+◌, ◌*◌, ◌/◌, ◌%◌, ◌<◌, ◌≤◌, ◌^◌, Bool, true, false, List, [], ◌∷◌, ◌++◌, Some, None, refl, sym, ap, subst, ◌∙◌, arith, cond}
+use Rattle.std.specs.Prelude.{ℤ, pos, negsuc, nat_lt, codes, ◌==◌, ◌||◌}
 use Rattle.std.specs.Char.{to_ascii_lowercase}
 use Rattle.std.specs.Fmt.{decimal, digits as glyphs, digits_onto, digit_glyph}
 use Rattle.std.specs.Str.{str_to_ascii_lowercase}
@@ -114,6 +114,7 @@ lower_onto (suc k) n acc h = at (n / 10 == 0) (lower_onto k (n / 10) (glyph n �
   where
     one : str_to_ascii_lowercase (glyph n ∷ acc) ≡ glyph n ∷ acc
     one = ap (λ b. b ∷ str_to_ascii_lowercase acc) (glyph_of n).lower ∙ ap (λ l. glyph n ∷ l) h
+
     at : (b : Bool) → str_to_ascii_lowercase (onto k (n / 10) (glyph n ∷ acc)) ≡ onto k (n / 10) (glyph n ∷ acc)
         → str_to_ascii_lowercase (cond b (glyph n ∷ acc) (onto k (n / 10) (glyph n ∷ acc)))
         ≡ cond b (glyph n ∷ acc) (onto k (n / 10) (glyph n ∷ acc))
@@ -169,15 +170,33 @@ in_range_below n h = grind (arith, h)
 positive : (n : ℕ) → Decimal n → IsNumber (decimal n) (pos n)
 positive n d =
     record {
-      radix = 10; negative = false; prefix = []; sign = []; number = decimal n; value = n;
-      has_prefix = radix_first 10 [] [] ten unmarked; has_sign = unsigned; has_value = d.value; whole = refl; is = refl;
+      radix = 10;
+      negative = false;
+      prefix = [];
+      sign = [];
+      number = decimal n;
+      value = n;
+      has_prefix = radix_first 10 [] [] ten unmarked;
+      has_sign = unsigned;
+      has_value = d.value;
+      whole = refl;
+      is = refl;
     }
 
 negative_number : (n : ℕ) → Decimal (suc n) → IsNumber (45 ∷ decimal (suc n)) (negsuc n)
 negative_number n d =
     record {
-      radix = 10; negative = true; prefix = []; sign = codes "-"; number = decimal (suc n); value = suc n;
-      has_prefix = radix_first 10 [] [] ten unmarked; has_sign = minus; has_value = d.value; whole = refl; is = refl;
+      radix = 10;
+      negative = true;
+      prefix = [];
+      sign = codes "-";
+      number = decimal (suc n);
+      value = suc n;
+      has_prefix = radix_first 10 [] [] ten unmarked;
+      has_sign = minus;
+      has_value = d.value;
+      whole = refl;
+      is = refl;
     }
 
 same_word : (p : Pos) (w small : List ℕ) (z : ℤ) → str_to_ascii_lowercase w ≡ small → IsNumber small z

@@ -2,7 +2,6 @@
 use Rattle.std.proofs.Common.{◌≡◌, ℕ, List as Seq, [], ◌∷◌, ◌++◌, Option, Some, None, refl, sym, ap, subst, ◌∙◌, append_assoc, length, arith}
 use Rattle.std.proofs.lemmas.List.{append-nil, reverse-append}
 use Rattle.std.specs.Prelude.{reverse, slice_get, codes}
-use Rattle.scheme_base.specs.declared.pos.Pos.{Pos}
 use Rattle.datum_form.specs.declared.datums.Kind.{Kind}
 use Rattle.datum_form.specs.declared.datums.Kind.TheVariants as kind
 use Rattle.datum_form.specs.declared.datums.Node.{Node}
@@ -131,12 +130,11 @@ list_printed nodes k (Chain p is) rest ids tail parts mid all text printed e h p
     let same : kind.List h.0 None ≡ kind.List ids tail = sym h.1 ∙ e in
     let ids_same : h.0 ≡ ids = cc in
     let no_tail : tail ≡ None = cc in
-    let P : Seq ℕ → Type 0 = λ l. StandAll nodes l is in
-    (
+    let P : Seq ℕ → Type 0 = λ l. StandAll nodes l is in (
       items_text is ++ (codes ")" ++ rest),
       items is (codes ")" ++ rest) (subst P ids_same h.2) (closing nodes parts mid rest (bare no_tail) pending),
       opened text printed (codes "(") (items_text is ++ (codes ")" ++ rest)) (text_of (Chain p is) ++ rest) first
-      (ap (λ l. 40 ∷ l) (sym (append_assoc (items_text is) (codes ")") rest))),
+          (ap (λ l. 40 ∷ l) (sym (append_assoc (items_text is) (codes ")") rest))),
     )
 list_printed nodes k (Dotted p is d) rest ids tail parts mid all text printed e h pending first bare tailed items =
     let same : kind.List h.0 (Some h.1) ≡ kind.List ids tail = sym h.2 ∙ e in
@@ -144,14 +142,13 @@ list_printed nodes k (Dotted p is d) rest ids tail parts mid all text printed e 
     let a_tail : tail ≡ Some h.1 = cc in
     let P : Seq ℕ → Type 0 = λ l. StandAll nodes l is in
     let end : Seq ℕ = (codes " . " ++ text_of d) ++ (codes ")" ++ rest) in
-    let last : Seq ℕ = codes " . " ++ (text_of d ++ codes ")") in
-    (
+    let last : Seq ℕ = codes " . " ++ (text_of d ++ codes ")") in (
       items_text is ++ end,
       items is end (subst P ids_same h.3) (tail_pending nodes parts mid h.1 d rest (tailed h.1 a_tail) h.4 pending),
       opened text printed (codes "(") (items_text is ++ end) (text_of (Dotted p is d) ++ rest) first
-      (ap (λ l. 40 ∷ l)
-      (ap (λ l. items_text is ++ (32 ∷ 46 ∷ 32 ∷ l)) (sym (append_assoc (text_of d) (codes ")") rest))
-      ∙ sym (append_assoc (items_text is) last rest))),
+          (ap (λ l. 40 ∷ l)
+          (ap (λ l. items_text is ++ (32 ∷ 46 ∷ 32 ∷ l)) (sym (append_assoc (text_of d) (codes ")") rest))
+          ∙ sym (append_assoc (items_text is) last rest))),
     )
 
 pub vector_printed : (nodes : Seq Node) (k : Kind) (d : Datum) (rest ids : Seq ℕ) (parts mid all : Seq Part)
@@ -168,12 +165,11 @@ vector_printed nodes k (Dotted p is d) rest ids parts mid all text printed e h p
 vector_printed nodes k (Row p is) rest ids parts mid all text printed e h pending first close items =
     let same : kind.Vector h.0 ≡ kind.Vector ids = sym h.1 ∙ e in
     let ids_same : h.0 ≡ ids = cc in
-    let P : Seq ℕ → Type 0 = λ l. StandAll nodes l is in
-    (
+    let P : Seq ℕ → Type 0 = λ l. StandAll nodes l is in (
       items_text is ++ (codes ")" ++ rest),
       items is (codes ")" ++ rest) (subst P ids_same h.2) (closing nodes parts mid rest close pending),
       opened text printed (codes "#(") (items_text is ++ (codes ")" ++ rest)) (text_of (Row p is) ++ rest) first
-      (ap (λ l. 35 ∷ 40 ∷ l) (sym (append_assoc (items_text is) (codes ")") rest))),
+          (ap (λ l. 35 ∷ 40 ∷ l) (sym (append_assoc (items_text is) (codes ")") rest))),
     )
 
 pub is_there : (nodes : Seq Node) (id : ℕ) (d : Datum) → Stands nodes id d → slice_get nodes id ≡ None → ⊥
@@ -186,12 +182,11 @@ is_there nodes id (Row p is) h e = let differ = sym e ∙ h.1 in cc
 
 pub first_pending : (nodes : Seq Node) (none_yet all : Seq Part) (top : ℕ) (d : Datum) (text : Seq ℕ) → none_yet ≡ []
     → all ≡ none_yet ++ part.Datum top ∷ [] → Stands nodes top d → Left nodes text all (text ++ text_of d)
-first_pending nodes none_yet all top d text e pushing h =
-    (
-      text_of d ++ [],
-      pushed nodes [] all (part.Datum top) (text_of d) [] (pushing ∙ ap (λ l. l ++ part.Datum top ∷ []) e) (d, h, refl) refl,
-      ap (λ l. text ++ l) (append-nil (text_of d)),
-    )
+first_pending nodes none_yet all top d text e pushing h = (
+  text_of d ++ [],
+  pushed nodes [] all (part.Datum top) (text_of d) [] (pushing ∙ ap (λ l. l ++ part.Datum top ∷ []) e) (d, h, refl) refl,
+  ap (λ l. text ++ l) (append-nil (text_of d)),
+)
 
 pub one_printed : (nodes : Seq Node) (parts all next : Seq Part) (p : Part) (text printed whole : Seq ℕ)
     → Left nodes text all whole → all ≡ parts ++ p ∷ []
@@ -220,14 +215,13 @@ line_printed nodes first others (item d js) text mid next whole h prints e f =
     let same : h.0 ≡ first = cc in
     let rest : h.1 ≡ others = cc in
     let P : ℕ → Type 0 = λ i. Stands nodes i d in
-    let Q : Seq ℕ → Type 0 = λ ids. StandAll nodes ids js in
-    (
+    let Q : Seq ℕ → Type 0 = λ ids. StandAll nodes ids js in (
       js,
       subst Q rest h.4,
       ap (λ l. l ++ lines_of js) e
-      ∙ (append_assoc mid (10 ∷ []) (lines_of js)
-      ∙ (ap (λ l. l ++ 10 ∷ lines_of js) (prints d (subst P same h.3))
-      ∙ (append_assoc text (text_of d) (10 ∷ lines_of js) ∙ f))),
+          ∙ (append_assoc mid (10 ∷ []) (lines_of js)
+          ∙ (ap (λ l. l ++ 10 ∷ lines_of js) (prints d (subst P same h.3))
+          ∙ (append_assoc text (text_of d) (10 ∷ lines_of js) ∙ f))),
     )
 
 pub lines_printed : (nodes : Seq Node) (ids : Seq ℕ) (left : Items) (text whole : Seq ℕ) → length ids ≡ 0

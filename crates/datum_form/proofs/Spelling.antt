@@ -1,16 +1,15 @@
 -- Words, characters and strings as R4RS writes them are what a run of bytes is, and no others are.
-use Rattle.std.proofs.Common.{◌≡◌, ◌≢◌, ℕ, zero, suc, ◌+◌, ◌<◌, Bool, true, false, List, [], ◌∷◌, ◌++◌, Option, Some, None, length, take, refl, sym, ap, subst, ◌∙◌, arith, cond, ◌⊎◌, inl, inr}
-use Rattle.std.specs.Prelude.{ℤ, nat_eq, nat_lt, not, codes, slice_index, ◌==◌, ◌&&◌, ◌||◌}
-use Rattle.std.specs.Str.{bytes_eq, str_to_ascii_lowercase}
+use Rattle.std.proofs.Common.{◌≡◌, ℕ, zero, suc, ◌<◌, Bool, true, false, List, [], ◌∷◌, Option, Some, None, refl, sym, ap, subst, ◌∙◌, arith, cond, ◌⊎◌, inl, inr}
+use Rattle.std.specs.Prelude.{ℤ, nat_eq, nat_lt, not, codes, ◌&&◌, ◌||◌}
+use Rattle.std.specs.Str.{bytes_eq}
 use Rattle.std.proofs.lemmas.Slice.Eq.{bytes_eq-Decides}
 use Rattle.scheme_base.specs.declared.pos.Pos.{Pos}
-use Rattle.datum_form.specs.Grammar.{IsNumber, IsWord, IsCharacter}
+use Rattle.datum_form.specs.Grammar.{IsWord}
 use Rattle.datum_form.specs.Grammar.IsWord.{dot, true_word, false_word, number, name}
-use Rattle.datum_form.specs.Grammar.IsCharacter.{itself, space, newline}
 use Rattle.datum_form.specs.Syntax.{Token}
-use Rattle.datum_form.specs.Syntax.Atom.{Integer, Boolean, Character, Name}
+use Rattle.datum_form.specs.Syntax.Atom.{Integer, Boolean, Name}
 use Rattle.datum_form.specs.Syntax.Token.{Dot, Single}
-use Rattle.datum_form.specs.Words.{Word, begins_with, digit, is_digit, is_initial, is_ordinary, all_subsequent, is_name, in_range, number as number_of, number_word, name_word, number_or_name, small_word, named_character, character_word}
+use Rattle.datum_form.specs.Words.{digit, is_initial, is_ordinary, all_subsequent, is_name, in_range, number as number_of, name_word, number_or_name, small_word}
 use Rattle.datum_form.specs.Words.Word.{IsToken, OutOfRange, NoWord}
 use Rattle.datum_form.proofs.Numerals.{plain, number_read, number_written}
 

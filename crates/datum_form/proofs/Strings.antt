@@ -1,7 +1,7 @@
 -- Characters and strings as R4RS writes them are what the bytes after their marks are, and no others are.
-use Rattle.std.proofs.Common.{◌≡◌, ◌≢◌, ℕ, suc, ◌+◌, Bool, true, false, List, [], ◌∷◌, ◌++◌, length, map, refl, sym, ap, subst, ◌∙◌, arith, cond}
+use Rattle.std.proofs.Common.{◌≡◌, ◌≢◌, ℕ, suc, ◌+◌, Bool, true, false, List, [], ◌∷◌, ◌++◌, length, refl, sym, ap, subst, ◌∙◌, arith, cond}
 use Rattle.std.proofs.lemmas.List.{length-map}
-use Rattle.std.specs.Prelude.{not, codes, slice_index, ◌==◌, ◌||◌}
+use Rattle.std.specs.Prelude.{codes, slice_index, ◌==◌, ◌||◌}
 use Rattle.std.specs.Char.{to_ascii_lowercase}
 use Rattle.std.specs.Str.{bytes_eq, str_to_ascii_lowercase}
 use Rattle.std.proofs.lemmas.Slice.Eq.{bytes_eq-Decides}
@@ -14,7 +14,7 @@ use Rattle.datum_form.specs.Syntax.Atom.{Character}
 use Rattle.datum_form.specs.Syntax.Token.{Single}
 use Rattle.datum_form.specs.Text.{Quoted, quoted, with_byte, with_bad_escape, after_backslash}
 use Rattle.datum_form.specs.Text.Quoted.{Closed, BadEscape, NeverClosed}
-use Rattle.datum_form.specs.Words.{Word, named_character, character_word}
+use Rattle.datum_form.specs.Words.{named_character, character_word}
 use Rattle.datum_form.specs.Words.Word.{IsToken, NoWord}
 
 -- Characters

@@ -1,11 +1,11 @@
 -- What is still to be printed.
-use Rattle.std.specs.Prelude.{◌≡◌, ℕ, List as Seq, [], ◌∷◌, ◌++◌, Option, Some, None, reverse, codes}
+use Rattle.std.specs.Prelude.{◌≡◌, ℕ, List as Seq, [], ◌∷◌, ◌++◌, Some, None, reverse, codes}
 use Rattle.datum_form.specs.declared.datums.Node.{Node}
 use Rattle.datum_form.specs.declared.datums.Kind.{Kind}
 use Rattle.datum_form.specs.declared.datums.Kind.TheVariants as kind
 use Rattle.datum_form.specs.declared.text.Part.{Part}
 use Rattle.datum_form.specs.declared.text.Part.TheVariants as part
-use Rattle.datum_form.specs.Data.{Datum, Items}
+use Rattle.datum_form.specs.Data.{Datum}
 use Rattle.datum_form.specs.Data.Datum.{Single, Chain, Dotted, Row}
 use Rattle.datum_form.specs.Stands.{kind_of, Stands, StandAll}
 use Rattle.datum_form.specs.Print.{text_of}

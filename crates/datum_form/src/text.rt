@@ -41,12 +41,7 @@ pub fn write_text(alloc: Global, datums: &Datums) -> Result<Vec<u8>, AllocError>
 }
 
 /// Prints a datum. Each turn prints at least one byte, so that the turns end no sooner than memory does.
-fn write_datum(
-    alloc: Global,
-    nodes: &Nodes,
-    top: u32,
-    text: &mut Vec<u8>,
-) -> Result<(), AllocError>
+fn write_datum(alloc: Global, nodes: &Nodes, top: u32, text: &mut Vec<u8>) -> Result<(), AllocError>
     ensures { OnOk result ((d : Datum) → Stands nodes.now top d → text.new.items ≡ text.old.items ++ text_of d) }
 {
     let mut parts = Vec::new(alloc);

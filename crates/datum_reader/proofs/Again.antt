@@ -1,6 +1,5 @@
 -- Data that were read may stand in a text, so that what is printed of them reads as the same data.
-use Rattle.std.proofs.Common.{◌≡◌, ℕ, zero, suc, List, [], ◌∷◌, ◌++◌, refl, sym, ap, subst, ◌∙◌}
-use Rattle.std.specs.Prelude.{codes}
+use Rattle.std.proofs.Common.{ℕ, zero, suc, List, [], ◌∷◌, refl, sym, subst}
 use Rattle.scheme_base.specs.declared.pos.Pos.{Pos}
 use Rattle.datum_form.specs.Data.{Datum, Items, pair, mark_name, datum_of, datum_of_rest, items_of, data_of}
 use Rattle.datum_form.specs.Data.Datum.{Single, Chain, Dotted, Row}
@@ -16,7 +15,7 @@ use Rattle.datum_form.specs.Syntax.Rest.{End, More, Tail}
 use Rattle.datum_form.specs.Syntax.Elements.{Last, Further}
 use Rattle.datum_form.proofs.Printed.{ValidAtom, ValidToken, token_valid}
 use Rattle.datum_reader.specs.Answer.{max_depth, Reads, ReadsAgain}
-use Rattle.datum_reader.proofs.Spelled.{NoList, SomeItems, Valid, ValidAll, Lines, lines_spelled}
+use Rattle.datum_reader.proofs.Spelled.{Valid, ValidAll, lines_spelled}
 
 -- All tokens of a text are valid
 
@@ -79,12 +78,11 @@ mark_valid : (m : Mark) → ValidAtom (Name (mark_name m))
 mark_valid Quote = (refl, (refl, (refl, (refl, (refl, (refl, tt))))), refl)
 mark_valid Quasiquote = (refl, (refl, (refl, (refl, (refl, (refl, (refl, (refl, (refl, (refl, (refl, tt)))))))))), refl)
 mark_valid Unquote = (refl, (refl, (refl, (refl, (refl, (refl, (refl, (refl, tt))))))), refl)
-mark_valid Splice =
-    (
-      refl,
-      (refl, (refl, (refl, (refl, (refl, (refl, (refl, (refl, (refl, (refl, (refl, (refl, (refl, (refl, (refl, (refl, tt)))))))))))))))),
-      refl,
-    )
+mark_valid Splice = (
+  refl,
+  (refl, (refl, (refl, (refl, (refl, (refl, (refl, (refl, (refl, (refl, (refl, (refl, (refl, (refl, (refl, (refl, tt)))))))))))))))),
+  refl,
+)
 
 -- A tree's datum is valid, and the tokens after the tree's are
 

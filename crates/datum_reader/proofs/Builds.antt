@@ -9,7 +9,6 @@ use Rattle.datum_form.specs.Syntax.{Atom, Syntax}
 use Rattle.datum_form.specs.Syntax.Syntax.{Listed}
 use Rattle.datum_form.specs.Syntax.Rest.{End, Tail}
 use Rattle.datum_form.specs.Syntax.Elements.{Last}
-use Rattle.datum_form.specs.Syntax.Atom.{Integer, Boolean, Character, Text, Name}
 use Rattle.datum_form.specs.Data.{Datum, Items, pair, datum_of, datum_of_rest, items_of, data_of}
 use Rattle.datum_form.specs.Data.Datum.{Single, Chain, Dotted, Row}
 use Rattle.datum_form.specs.Data.Items.{none, item}

@@ -1,12 +1,11 @@
 -- Data that may stand in a text are printed as a text that reads as the same data.
 use Rattle.std.proofs.Common.{◌≡◌, ℕ, zero, suc, List, [], ◌∷◌, ◌++◌, refl, sym, ap, subst, ◌∙◌, append_assoc}
-use Rattle.std.proofs.lemmas.List.{append-nil}
 use Rattle.std.specs.Prelude.{codes}
 use Rattle.scheme_base.specs.declared.pos.Pos.{Pos}
 use Rattle.datum_form.specs.Data.{Datum, Items, datum_of, data_of, nowhere, unplaced, unplaced_all}
 use Rattle.datum_form.specs.Data.Datum.{Single, Chain, Dotted as DottedData, Row}
 use Rattle.datum_form.specs.Data.Items.{none, item}
-use Rattle.datum_form.specs.Grammar.{Delimited, IsToken, IsTokens, place_after}
+use Rattle.datum_form.specs.Grammar.{Delimited, IsTokens, place_after}
 use Rattle.datum_form.specs.Grammar.IsToken.{opens, opens_vector, closes, word}
 use Rattle.datum_form.specs.Grammar.IsTokens.{ended, white, token}
 use Rattle.datum_form.specs.Grammar.IsWord.{dot}
@@ -116,14 +115,14 @@ chain_spelled p r is n s =
       within = list_within p q s.trees n s.within;
       same = ap unplaced (list_datum p q s.trees) ∙ ap (λ js. Chain nowhere js) s.same;
       spelled = λ after us d k.
-      retold p (text_of (Chain r is) ++ after) (Open p ∷ written_all s.trees (Close q ∷ us)) (written (list_tree p s.trees q) us)
-      (sym (list_written p q s.trees us))
-      (respelled p (40 ∷ (items_text is ++ (codes ")" ++ after))) (text_of (Chain r is) ++ after) (Open p ∷ written_all s.trees (Close q ∷ us))
-      (ap (λ l. 40 ∷ l) (sym (append_assoc (items_text is) (codes ")") after)))
-      (token p (codes "(") (items_text is ++ (codes ")" ++ after)) (Open p) (written_all s.trees (Close q ∷ us))
-      (opens p (items_text is ++ (codes ")" ++ after)))
-      (s.spelled (codes ")" ++ after) (Close q ∷ us) refl
-      (closed p q (place_after p (text_of (Chain r is))) after us (place_after-append inner (items_text is) (codes ")")) k))));
+          retold p (text_of (Chain r is) ++ after) (Open p ∷ written_all s.trees (Close q ∷ us)) (written (list_tree p s.trees q) us)
+          (sym (list_written p q s.trees us))
+          (respelled p (40 ∷ (items_text is ++ (codes ")" ++ after))) (text_of (Chain r is) ++ after) (Open p ∷ written_all s.trees (Close q ∷ us))
+          (ap (λ l. 40 ∷ l) (sym (append_assoc (items_text is) (codes ")") after)))
+          (token p (codes "(") (items_text is ++ (codes ")" ++ after)) (Open p) (written_all s.trees (Close q ∷ us))
+          (opens p (items_text is ++ (codes ")" ++ after)))
+          (s.spelled (codes ")" ++ after) (Close q ∷ us) refl
+          (closed p q (place_after p (text_of (Chain r is))) after us (place_after-append inner (items_text is) (codes ")")) k))));
     }
 
 -- Vectors
@@ -138,16 +137,16 @@ row_spelled p r is n s =
       within = within_elements_of s.trees Last n s.within tt;
       same = ap (λ js. unplaced (Row p js)) (vector_data s.trees) ∙ ap (λ js. Row nowhere js) s.same;
       spelled = λ after us d k.
-      retold p (text_of (Row r is) ++ after) (OpenVector p ∷ written_all s.trees (Close q ∷ us))
-      (written (Vector p (elements_of s.trees Last) q) us)
-      (ap (λ ts. OpenVector p ∷ ts) (sym (written_elements_of s.trees Last (Close q ∷ us))))
-      (respelled p (35 ∷ 40 ∷ (items_text is ++ (codes ")" ++ after))) (text_of (Row r is) ++ after)
-      (OpenVector p ∷ written_all s.trees (Close q ∷ us))
-      (ap (λ l. 35 ∷ 40 ∷ l) (sym (append_assoc (items_text is) (codes ")") after)))
-      (token p (codes "#(") (items_text is ++ (codes ")" ++ after)) (OpenVector p) (written_all s.trees (Close q ∷ us))
-      (opens_vector p (items_text is ++ (codes ")" ++ after)))
-      (s.spelled (codes ")" ++ after) (Close q ∷ us) refl
-      (closed p q (place_after p (text_of (Row r is))) after us (place_after-append inner (items_text is) (codes ")")) k))));
+          retold p (text_of (Row r is) ++ after) (OpenVector p ∷ written_all s.trees (Close q ∷ us))
+          (written (Vector p (elements_of s.trees Last) q) us)
+          (ap (λ ts. OpenVector p ∷ ts) (sym (written_elements_of s.trees Last (Close q ∷ us))))
+          (respelled p (35 ∷ 40 ∷ (items_text is ++ (codes ")" ++ after))) (text_of (Row r is) ++ after)
+          (OpenVector p ∷ written_all s.trees (Close q ∷ us))
+          (ap (λ l. 35 ∷ 40 ∷ l) (sym (append_assoc (items_text is) (codes ")") after)))
+          (token p (codes "#(") (items_text is ++ (codes ")" ++ after)) (OpenVector p) (written_all s.trees (Close q ∷ us))
+          (opens_vector p (items_text is ++ (codes ")" ++ after)))
+          (s.spelled (codes ")" ++ after) (Close q ∷ us) refl
+          (closed p q (place_after p (text_of (Row r is))) after us (place_after-append inner (items_text is) (codes ")")) k))));
     }
 
 -- Dotted lists
@@ -207,22 +206,22 @@ dotted_spelled p r is first others d n items e s plain =
           ∙ (ap (λ js. DottedData nowhere js (unplaced (datum_of s.tree))) same_items
           ∙ ap (λ t. DottedData nowhere (unplaced_all is) t) s.same));
       spelled = λ after us delimited k.
-      let last : List ℕ = codes " . " ++ (text_of d ++ codes ")") in
-      let end : List ℕ = codes " . " ++ (text_of d ++ (codes ")" ++ after)) in
-      let ts : List Token = Dot at_dot ∷ written s.tree (Close q ∷ us) in
-      retold p (text_of (DottedData r is d) ++ after) (Open p ∷ written_all items.trees ts) (written tree us)
-      (ap (λ ss. Open p ∷ written_all ss ts) e
-      ∙ ap (λ l. Open p ∷ written first l) (sym (written_rest_of others (Tail at_dot s.tree) (Close q ∷ us))))
-      (respelled p (40 ∷ (items_text is ++ end)) (text_of (DottedData r is d) ++ after) (Open p ∷ written_all items.trees ts)
-      (ap (λ l. 40 ∷ l)
-      (ap (λ l. items_text is ++ (32 ∷ 46 ∷ 32 ∷ l)) (sym (append_assoc (text_of d) (codes ")") after))
-      ∙ sym (append_assoc (items_text is) last after)))
-      (token p (codes "(") (items_text is ++ end) (Open p) (written_all items.trees ts)
-      (opens p (items_text is ++ end))
-      (items.spelled end ts refl
-      (tail_spelled middle d n after us s
-      (moved (place_after p (text_of (DottedData r is d))) (place_after middle last) after us
-      (place_after-append inner (items_text is) last) k)))));
+          let last : List ℕ = codes " . " ++ (text_of d ++ codes ")") in
+          let end : List ℕ = codes " . " ++ (text_of d ++ (codes ")" ++ after)) in
+          let ts : List Token = Dot at_dot ∷ written s.tree (Close q ∷ us) in
+          retold p (text_of (DottedData r is d) ++ after) (Open p ∷ written_all items.trees ts) (written tree us)
+          (ap (λ ss. Open p ∷ written_all ss ts) e
+          ∙ ap (λ l. Open p ∷ written first l) (sym (written_rest_of others (Tail at_dot s.tree) (Close q ∷ us))))
+          (respelled p (40 ∷ (items_text is ++ end)) (text_of (DottedData r is d) ++ after) (Open p ∷ written_all items.trees ts)
+          (ap (λ l. 40 ∷ l)
+          (ap (λ l. items_text is ++ (32 ∷ 46 ∷ 32 ∷ l)) (sym (append_assoc (text_of d) (codes ")") after))
+          ∙ sym (append_assoc (items_text is) last after)))
+          (token p (codes "(") (items_text is ++ end) (Open p) (written_all items.trees ts)
+          (opens p (items_text is ++ end))
+          (items.spelled end ts refl
+          (tail_spelled middle d n after us s
+          (moved (place_after p (text_of (DottedData r is d))) (place_after middle last) after us
+          (place_after-append inner (items_text is) last) k)))));
     }
 
 -- All data
@@ -240,12 +239,12 @@ joined p d is n s m =
       within = (s.within, m.within);
       same = ap (λ e. item e (unplaced_all (data_of m.trees))) s.same ∙ ap (item (unplaced d)) m.same;
       spelled = λ after us h k.
-      respelled p (text_of d ++ (more_text is ++ after)) ((text_of d ++ more_text is) ++ after)
-      (written s.tree (written_all m.trees us)) (sym (append_assoc (text_of d) (more_text is) after))
-      (s.spelled (more_text is ++ after) (written_all m.trees us) (delimited_more is after h)
-      (m.spelled after us h
-      (moved (place_after p (text_of d ++ more_text is)) (place_after (place_after p (text_of d)) (more_text is)) after us
-      (place_after-append p (text_of d) (more_text is)) k)));
+          respelled p (text_of d ++ (more_text is ++ after)) ((text_of d ++ more_text is) ++ after)
+          (written s.tree (written_all m.trees us)) (sym (append_assoc (text_of d) (more_text is) after))
+          (s.spelled (more_text is ++ after) (written_all m.trees us) (delimited_more is after h)
+          (m.spelled after us h
+          (moved (place_after p (text_of d ++ more_text is)) (place_after (place_after p (text_of d)) (more_text is)) after us
+          (place_after-append p (text_of d) (more_text is)) k)));
     }
 
 joined_trees : (p : Pos) (d : Datum) (is : Items) (n : ℕ) (s : Spelling p (text_of d) n d)
@@ -262,7 +261,7 @@ after_space p d is n s =
       within = s.within;
       same = s.same;
       spelled = λ after us h k.
-      white p 32 ((text_of d ++ more_text is) ++ after) (written_all s.trees us) refl (s.spelled after us h k);
+          white p 32 ((text_of d ++ more_text is) ++ after) (written_all s.trees us) refl (s.spelled after us h k);
     }
 
 nothing : (p : Pos) (n : ℕ) → SpellingAll p [] n none

@@ -1,7 +1,7 @@
 -- A text is tokens as R4RS writes them exactly where it has these tokens and comes to its end.
 use Rattle.std.proofs.Common.{◌≡◌, ◌≢◌, ℕ, zero, suc, ◌+◌, ◌<◌, ◌≤◌, Bool, true, false, List, [], ◌∷◌, ◌++◌, length, take, drop, refl, sym, ap, subst, ◌∙◌, length-append, arith, cond}
 use Rattle.std.proofs.Math.Seq.{take-append_seam, drop-append_seam}
-use Rattle.std.specs.Prelude.{not, nat_eq, codes, ◌==◌}
+use Rattle.std.specs.Prelude.{not, codes}
 use Rattle.std.specs.Char.{is_ascii_whitespace}
 use Rattle.std.specs.Str.{str_to_ascii_lowercase}
 use Rattle.scheme_base.specs.declared.pos.Pos.{Pos}
@@ -10,7 +10,7 @@ use Rattle.datum_form.specs.Grammar.IsTokens.{ended, white, comment, token}
 use Rattle.datum_form.specs.Syntax.{Token}
 use Rattle.datum_form.specs.Syntax.Mark.{Quote, Quasiquote, Unquote, Splice}
 use Rattle.datum_form.specs.Syntax.Token.{Open, OpenVector, Close, Marking}
-use Rattle.datum_form.specs.Text.{Piece, Quoted, Lexed, quoted, is_line_end, run_length, line_length, word_piece, string_piece, character_piece, run_piece, mark_piece, token_piece, piece, piece_length, after_byte, lexed_after}
+use Rattle.datum_form.specs.Text.{Piece, Quoted, Lexed, quoted, is_line_end, run_length, line_length, word_piece, string_piece, character_piece, run_piece, mark_piece, token_piece, piece, after_byte, lexed_after}
 use Rattle.datum_form.specs.Text.Ending.{Clean, BadAt, RangeAt, OpenAt}
 use Rattle.datum_form.specs.Text.Piece.{Blank, Found, BadToken, BadNumber, OpenText}
 use Rattle.datum_form.specs.Text.Quoted.{Closed, BadEscape, NeverClosed}

@@ -1,6 +1,5 @@
 -- The tokens of what is left of a text.
-use Rattle.std.specs.Prelude.{◌≡◌, ℕ, ◌+◌, ◌<◌, ◌≤◌, List, [], ◌∷◌, length}
-use Rattle.scheme_base.specs.declared.pos.Pos.{Pos}
+use Rattle.std.specs.Prelude.{◌≡◌, ◌+◌, ◌<◌, ◌≤◌, [], ◌∷◌, length}
 use Rattle.datum_form.specs.Syntax.{Token}
 use Rattle.datum_form.specs.Text.{Lexed, Ending, lexed_after}
 use Rattle.datum_form.specs.Text.Ending.{Clean, BadAt, RangeAt, OpenAt}

@@ -6,8 +6,7 @@
 
 use datum_reader::{ReadErr, read_program};
 use std::alloc::{AllocError, Global};
-use std::env;
-use std::io;
+use std::{env, io};
 
 /// How many bytes a text has.
 const LENGTH: usize = 1 << 20;

@@ -1,4 +1,4 @@
-use Rattle.std.proofs.Common.{◌≡◌, List as Seq, ℕ, ap, ◌∙◌, subst, sym}
+use Rattle.std.proofs.Common.{List as Seq, ℕ, subst, sym}
 use Rattle.datum_form.specs.Stands.{StandAll}
 use Rattle.datum_form.proofs.Printing.{list_printed, vector_printed}
 use Rattle.datum_form.proofs.text.write_kind.Goals as goal

@@ -1,5 +1,3 @@
-use Rattle.std.proofs.Common.{Err}
-use Rattle.datum_reader.specs.declared.error.ReadErr.TheVariants.{TooLong}
 use Rattle.datum_reader.proofs.Turns.{only_data, only_fault}
 use Rattle.datum_reader.proofs.read.read_program.Goals as goal
 

@@ -1,4 +1,4 @@
-use Rattle.std.proofs.Common.{[], refl, sym, ap, subst, ◌∙◌, arith}
+use Rattle.std.proofs.Common.{[], refl, subst, arith}
 use Rattle.datum_form.specs.Text.{lexed}
 use Rattle.datum_form.specs.Text.Ending.{BadAt, RangeAt, OpenAt}
 use Rattle.datum_reader.specs.declared.error.ReadErr.TheVariants.{Unclosed, BadToken, NumberRange}

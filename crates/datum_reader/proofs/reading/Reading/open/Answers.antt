@@ -1,4 +1,4 @@
-use Rattle.std.proofs.Common.{◌≡◌, Bool, true, false, refl, ◌∙◌, arith}
+use Rattle.std.proofs.Common.{◌≡◌, true, false, refl, ◌∙◌, arith}
 use Rattle.datum_reader.specs.declared.reading.Reading.{Reading}
 use Rattle.datum_reader.specs.Machine.{room, open_one}
 use Rattle.datum_reader.proofs.Takes.{refused, entered, too_deep, opens}

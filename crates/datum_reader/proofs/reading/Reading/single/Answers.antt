@@ -1,4 +1,4 @@
-use Rattle.std.proofs.Common.{◌≡◌, Bool, true, false, refl, ◌∙◌, arith}
+use Rattle.std.proofs.Common.{◌≡◌, true, false, refl, ◌∙◌, arith}
 use Rattle.datum_form.specs.Syntax.Syntax.{Leaf}
 use Rattle.datum_reader.specs.declared.reading.Reading.{Reading}
 use Rattle.datum_reader.specs.Found.{atom_of}
