@@ -1,0 +1,4 @@
+pub mod Valid
+pub mod Fields
+pub mod File
+pub mod Reading
