@@ -8,6 +8,8 @@ use Rattle.rv_form.specs.Machine.{machine, start}
 use Rattle.rv_form.proofs.Walk.{coded_machine}
 use Rattle.rv_form.proofs.Steadiness.{coded_is_steady}
 use Rattle.rv_form.proofs.Coded.{runs_from_memory}
+use Rattle.elf_write.proofs.Back.{reads_back}
+use Rattle.first_image.proofs.Valid.{first_valid}
 use Rattle.first_image.specs.Source.{Source, Going, Stopped, source_step, source_trace, source_ending, source_machine, source_start}
 use Rattle.first_image.specs.First.{first_image, first_file}
 use Rattle.first_image.specs.Agrees.{Agrees}
@@ -44,4 +46,9 @@ first_runs chars env few =
 
 -- the law of the first image
 pub first_agrees : (chars : List ℕ) → length chars < 2 ^ 30 → Agrees chars (first_file chars)
-first_agrees chars few = record { image = first_image chars; held = refl; runs = λ env. first_runs chars env few }
+first_agrees chars few =
+    record {
+      image = first_image chars;
+      held = reads_back (first_image chars) (first_valid chars few);
+      runs = λ env. first_runs chars env few;
+    }

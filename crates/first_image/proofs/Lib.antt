@@ -1,5 +1,5 @@
 pub mod Examples
 pub mod Text
 pub mod Turns
+pub mod Valid
 pub mod Law
-pub mod Joined

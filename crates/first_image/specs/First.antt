@@ -10,7 +10,7 @@ use Rattle.rv_form.specs.declared.image.Image.{Image}
 use Rattle.rv_form.specs.declared.image.Segment.{Segment}
 use Rattle.rv_form.specs.Numbers.{far_part, near_part}
 use Rattle.rv_form.specs.Instruction.{code_bytes}
-use Rattle.first_image.specs.File.{file_of}
+use Rattle.elf_write.specs.File.{file_of}
 
 -- The code for so many characters. Each row begins at the place that stands above it, and a branch or
 -- a jump names its distance: `negsuc 35` is -36.

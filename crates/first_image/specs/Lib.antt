@@ -1,4 +1,3 @@
 pub mod Source
-pub mod File
 pub mod First
 pub mod Agrees

@@ -1,9 +1,9 @@
 ghost use Rattle.std.specs.Prelude.{◌≡◌, ◌+◌, ◌++◌, ◌<◌, ◌^◌, pos, OnOk};
-ghost use Rattle.rv_form.specs.Numbers.{far_part, near_part};
+ghost use Rattle.rv_form.specs.Numbers.{far_part, near_part, low_bytes};
 ghost use Rattle.rv_form.specs.Instruction.{AllValid, code_bytes};
 ghost use Rattle.first_image.specs.First.{first_code};
 
-use crate::fields::push_number;
+use byteorder::{ByteOrder, LittleEndian};
 use rv_encode::encode;
 use rv_form::Instr;
 use scheme_base::Bytes;
@@ -15,9 +15,18 @@ pub fn push_code(out: &mut Bytes, code: &[Instr]) -> Result<(), AllocError>
     ensures { OnOk result (out.new ≡ out.old ++ code_bytes code.now) }
 {
     for instr in code {
-        push_number(out, 4, u64::from(encode(*instr)))?;
+        out.extend_from_slice(&word_bytes(encode(*instr)))?;
     }
     Ok(())
+}
+
+/// The bytes of a word, the lowest first.
+fn word_bytes(word: u32) -> [u8; 4]
+    ensures { result ≡ low_bytes 4 word }
+{
+    let mut bytes = [0; 4];
+    LittleEndian::write_u32(&mut bytes, word);
+    bytes
 }
 
 /// The code that writes so many characters, which stand 4 bytes past its end.

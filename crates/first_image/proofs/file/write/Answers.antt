@@ -1,9 +1,12 @@
-use Rattle.std.proofs.Common.{◌++◌, ◌∙◌, ap}
-use Rattle.first_image.proofs.Joined.{file_joined}
+use Rattle.std.proofs.Common.{◌≡◌, IfOk, sym, subst}
+use Rattle.elf_write.specs.Valid.{IsValid}
+use Rattle.elf_write.specs.File.{file_of}
+use Rattle.first_image.proofs.Valid.{first_valid}
 use Rattle.first_image.proofs.file.write.Goals as goal
+
+pub write-requires : goal.write-requires
+write-requires c = subst IsValid (sym c.in_ok-image.ensures) (first_valid c.args.chars.now c.requires)
 
 pub returns : goal.returns
 returns c =
-    file_joined c.args.chars.now c.in_ok-segment.segment c.head_for.result c.new-file.result _ _ _
-    c.in_ok-segment.ensures c.new-file.ensures c.head_for.ensures c.in_ok-push_fields.ensures c.in_ok-push_zeros.ensures
-    (c.in_ok-extend_from_slice.ensures.ok ∙ ap (λ bytes. c.push_zeros.new.out ++ bytes) c.as_slice.ensures)
+    subst (λ image. IfOk c.write.result (λ file. file.items ≡ file_of image)) c.in_ok-image.ensures c.write.ensures.file
