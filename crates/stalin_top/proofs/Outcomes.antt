@@ -1,7 +1,7 @@
 -- What an answer to `compile` says of the files, from what reading, building and writing gave.
-use Rattle.std.proofs.Common.{ℕ, ◌<◌, ◌≤◌, ◌^◌, length, arith, ◌≡◌, refl, sym, ap, subst, ◌∙◌, List, Option, Some, None, ◌⊎◌, inl, inr, ⊎_elim}
+use Rattle.std.proofs.Common.{ℕ, ◌<◌, ◌≤◌, ◌^◌, length, arith, ◌≡◌, refl, sym, ap, subst, ◌∙◌, List, Option, Some, None, inl, inr, ⊎_elim}
 use Rattle.scheme_base.specs.declared.pos.Pos.{Pos}
-use Rattle.stalin_outside.specs.Shelf.{Files, WhereTold, SameFiles, ChangesOnly}
+use Rattle.stalin_outside.specs.Shelf.{Files, WhereTold, SameFiles}
 use Rattle.first_form.specs.Form.{Reads, IsNotYet}
 use Rattle.first_form.proofs.Answer.{apart, one_place}
 use Rattle.first_image.specs.First.{first_file}
@@ -11,18 +11,18 @@ use Rattle.stalin_top.specs.declared.answer.Answer.TheVariants.{Done, Usage, Too
 use Rattle.stalin_top.specs.declared.files.Reading.TheVariants as reads
 use Rattle.stalin_top.specs.declared.files.Writing.TheVariants as writes
 use Rattle.stalin_top.specs.Files.{ReadsFile, WritesFile, HoldsFront}
-use Rattle.stalin_top.specs.Headline.{IsCompiled, HasSource, Outcome, Causes, Yields, IfTold, source_limit}
+use Rattle.stalin_top.specs.Headline.{IsCompiled, Outcome, Causes, IfTold, source_limit}
 
 -- the image that is made of what was read is the compiled text
 pub compiled : (text chars bytes one other : List ℕ) → Reads text chars → one ≡ chars → other ≡ chars
     → bytes ≡ first_file other → Agrees one (first_file one) → IsCompiled text bytes
 compiled text chars bytes one other read one_is other_is made law =
-    let image : bytes ≡ first_file chars = made ∙ ap first_file other_is in
+    let file : bytes ≡ first_file chars = made ∙ ap first_file other_is in
     record {
       chars = chars;
       reads = read;
-      image = image;
-      runs = subst (λ b. Agrees chars b) (sym image) (subst (λ c. Agrees c (first_file c)) one_is law);
+      file = file;
+      runs = subst (λ b. Agrees chars b) (sym file) (subst (λ c. Agrees c (first_file c)) one_is law);
     }
 
 pub too_large : (before now : Option Files) (input output : List ℕ) → ReadsFile before input reads.TooLong

@@ -1,8 +1,9 @@
 -- What the program promises: the headline, and the cause of each answer.
 --
--- The words here are defined one crate below each: `Reads` and `IsNotYet` are what a text says and where
--- it stops being a program (first_form), `Agrees` is that an image runs as its program does under every
--- environment (first_image), `Files` are a shelf's files by name (stalin_outside).
+-- The words here are defined in the crates below: `Reads` and `IsNotYet` are what a text says and where it
+-- stops being a program (first_form), `Agrees` is that bytes are read as an ELF file of an image
+-- (elf_write) which runs as its program does under every environment (first_image), `Files` are a shelf's
+-- files by name (stalin_outside).
 use Rattle.std.specs.Prelude.{ℕ, ◌≡◌, ◌+◌, ◌<◌, ◌≤◌, ◌^◌, ◌⊎◌, List, [], ◌∷◌, length, Option, Some, None, codes}
 use Rattle.scheme_base.specs.declared.limit.Limit.{Limit}
 use Rattle.scheme_base.specs.declared.limit.LimitKind.TheVariants.{Source}
@@ -18,13 +19,13 @@ use Rattle.stalin_top.specs.Files.{HoldsFront}
 use Rattle.stalin_top.specs.declared.answer.Answer.{Answer}
 use Rattle.stalin_top.specs.declared.answer.Answer.TheVariants.{Done, Usage, TooLarge, FileFault, NotYet, NoMemory}
 
--- The headline. These bytes are the image of the program that the text is: run under any environment, it
--- shows exactly the program's output prefixes and ends exactly where and as the program ends; it never
--- traps.
+-- The headline. These bytes are the file of the program that the text is. The image which they are read as
+-- shows, run under any environment, exactly the program's output prefixes, and ends exactly where and as
+-- the program ends; it never traps.
 pub record IsCompiled (text bytes : List ℕ) : Type 0 where
   pub chars : List ℕ
   pub reads : Reads text chars
-  pub image : bytes ≡ first_file chars
+  pub file : bytes ≡ first_file chars
   pub runs : Agrees chars bytes
 
 -- a file has a text of at most 2^20 bytes

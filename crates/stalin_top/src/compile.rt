@@ -7,7 +7,7 @@ ghost use Rattle.stalin_top.specs.Headline.{IsCompiled, Outcome, IsAsked, IsNoUs
 use crate::Answer;
 use crate::files::{self, Reading, Writing, read_source, write_file};
 use first_form::FirstErr;
-use scheme_base::{Bytes, Limit, LimitKind};
+use scheme_base::{Limit, LimitKind};
 use stalin_outside::Shelf;
 use std::alloc::Global;
 
@@ -42,10 +42,10 @@ pub(crate) fn compile<H: Shelf>(alloc: Global, shelf: &mut H, input: &str, outpu
     }
 }
 
-/// The image of the program that a text is.
-fn build(alloc: Global, source: &[u8]) -> Result<Bytes, FirstErr>
+/// The file of the image of the program that a text is.
+fn build(alloc: Global, source: &[u8]) -> Result<Vec<u8>, FirstErr>
     requires { length source.now ≤ 2 ^ 20 }
-    ensures image { IfOk result (λ image. IsCompiled source.now image) }
+    ensures image { IfOk result (λ image. IsCompiled source.now image.items) }
     ensures fault { IfErr result (λ err. HasFault source.now err) }
 {
     let chars = first_form::read(alloc, source)?;
