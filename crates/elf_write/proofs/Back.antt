@@ -1,6 +1,7 @@
 -- Reading the file that is written of an image gives the image.
-use Rattle.std.proofs.Common.{◌≡◌, ℕ, suc, ◌+◌, ◌-◌, ◌*◌, ◌/◌, ◌%◌, ◌≤◌, ◌<◌, ◌^◌, true, List, [], ◌∷◌, ◌++◌, length, take, drop, replicate, refl, sym, ap, subst, ◌∙◌, arith, nat_eq, nat_lt, Bool, false, if◌then◌else◌, append_assoc, append-nil, zero-add, length-append}
+use Rattle.std.proofs.Common.{◌≡◌, ℕ, suc, ◌+◌, ◌-◌, ◌*◌, ◌/◌, ◌%◌, ◌≤◌, ◌<◌, ◌^◌, true, List, [], ◌∷◌, ◌++◌, length, take, drop, replicate, refl, sym, ap, subst, ◌∙◌, arith, nat_eq, Bool, false, if◌then◌else◌, append_assoc, append-nil, zero-add, length-append}
 use Rattle.std.proofs.lemmas.List.{drop-drop, drop_at, take_at, length-replicate}
+use borrow.Author.Count.{below_more}
 use Rattle.byteorder.specs.Endian.{little_number, little_bytes}
 use Rattle.byteorder.specs.Numbers.{little_number-reads_back}
 use Rattle.rv_form.specs.declared.image.Image.{Image}
@@ -104,29 +105,12 @@ record At (bytes tail : List ℕ) (before segments : List Segment) (j place : �
   ascend : Ascend segments
   small : memory_size before + memory_size segments ≤ 2 ^ 31
 
-or_last : (bytes : List ℕ) (j k : ℕ) → k ≡ j → TakenAt bytes j → TakenAt bytes k
-or_last bytes j k same here = subst (TakenAt bytes) (sym same) here
+taken_more : (bytes : List ℕ) (j : ℕ) → Taken bytes j → TakenAt bytes j → Taken bytes (suc j)
+taken_more bytes j taken here = λ k below. below_more (TakenAt bytes) j taken here k (omega arith)
 
-earlier_from : (k j : ℕ) → nat_lt k j ≡ true → k < j
-earlier_from k j is = grind arith
-
-last_from : (k j : ℕ) → k < suc j → nat_lt k j ≡ false → k ≡ j
-last_from k j below is = grind arith
-
-pub taken_more : (bytes : List ℕ) (j : ℕ) → Taken bytes j → TakenAt bytes j → Taken bytes (suc j)
-taken_more bytes j taken here = λ k below. by_place k below (nat_lt k j) refl
-  where
-    by_place : (k : ℕ) → k < suc j → (earlier : Bool) → nat_lt k j ≡ earlier → TakenAt bytes k
-    by_place k below true is = taken k (earlier_from k j is)
-    by_place k below false is = or_last bytes j k (last_from k j below is) here
-
--- the memory that segments take has room for their bytes
-each_from_more : (low : ℕ) (segments : List Segment) → EachFrom 0 segments
-each_from_more low [] = tt
-each_from_more low (segment ∷ rest) = (omega arith, each_from_more low rest)
-
-length_header : (offset : ℕ) (segment : Segment) → length (program_header_bytes offset segment) ≡ 56
-length_header offset segment = refl
+each_from_zero : (segments : List Segment) → EachFrom 0 segments
+each_from_zero [] = tt
+each_from_zero (segment ∷ rest) = (omega arith, each_from_zero rest)
 
 pub page_near : (place : ℕ) → page_from place ≤ place + 4095
 page_near place = omega arith
@@ -238,7 +222,7 @@ starts_at image valid =
       loads = refl;
       taken = λ k below. absurd (omega arith);
       each = valid.each;
-      above = each_from_more 0 image.segments;
+      above = each_from_zero image.segments;
       ascend = valid.ascend;
       small = omega (arith, valid.small);
     }
