@@ -119,9 +119,10 @@ one_at : (bytes tail : List ℕ) (before rest : List Segment) (segment : Segment
     → At bytes tail before (segment ∷ rest) j place → program_header bytes j ≡ described (page_from place) segment
 one_at bytes tail before rest segment j place table at =
     let near = page_near place in
-    let here : drop (headers_place bytes + 56 * j) bytes ≡ program_header_bytes (page_from place) segment ++ (segment_headers (page_from place + length segment.bytes) rest ++ tail) =
-    ap (λ p. drop (p + 56 * j) bytes) table
-    ∙ (at.headers ∙ append_assoc (program_header_bytes (page_from place) segment) (segment_headers (page_from place + length segment.bytes) rest) tail)
+    let front = program_header_bytes (page_from place) segment in
+    let left = segment_headers (page_from place + length segment.bytes) rest in
+    let here : drop (headers_place bytes + 56 * j) bytes ≡ front ++ (left ++ tail) =
+    ap (λ p. drop (p + 56 * j) bytes) table ∙ (at.headers ∙ append_assoc front left tail)
     in
     header_back bytes _ _ (page_from place) segment here (omega (arith, at.room)) at.each.0
 
@@ -254,12 +255,19 @@ reads_back image valid =
     let count : headers_count (file_of image) ≡ length image.segments =
     little_number-reads_back 2 (length image.segments) (drop 58 (file_of image)) (omega (arith, valid.few))
     in
-    let entry : entry_of (file_of image) ≡ image.entry = little_number-reads_back 8 image.entry (drop 32 (file_of image)) (let low = entry_low image.segments image.entry valid.each valid.entry.executed in omega arith) in
+    let low = entry_low image.segments image.entry valid.each valid.entry.executed in
+    let entry : entry_of (file_of image) ≡ image.entry =
+    little_number-reads_back 8 image.entry (drop 32 (file_of image)) (omega arith)
+    in
     let place = 64 + 56 * length image.segments in
     let headers = segment_headers place image.segments in
     let size = length_headers place image.segments in
     let inside = length-append headers (segment_bytes place image.segments) in
-    let done = all_at (file_of image) _ [] image.segments 0 _ (headers_count (file_of image)) refl (count ∙ sym (zero-add (length image.segments))) (starts_at image valid) in
+    let done =
+    all_at (file_of image) _ [] image.segments 0 _ (headers_count (file_of image)) refl
+    (count ∙ sym (zero-add (length image.segments)))
+    (starts_at image valid)
+    in
     record {
       header =
           record {
@@ -278,6 +286,8 @@ reads_back image valid =
             headers = omega (arith, count, inside);
           };
       taken = done.taken;
-      entry = subst (λ e. IsEntry (loaded (file_of image) (headers_count (file_of image))) e) (sym entry) (subst (λ s. IsEntry s image.entry) (sym done.loads) valid.entry);
+      entry =
+          subst (λ e. IsEntry (loaded (file_of image) (headers_count (file_of image))) e) (sym entry)
+          (subst (λ s. IsEntry s image.entry) (sym done.loads) valid.entry);
       is = λ i. record { entry = sym entry i; segments = sym done.loads i };
     }
