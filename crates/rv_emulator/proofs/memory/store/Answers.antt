@@ -1,0 +1,29 @@
+use Rattle.std.proofs.Common.{subst, sym, ◌≡◌, ◌∙◌, ◌<◌, true, ℕ, arith}
+use Rattle.std.specs.Prelude.{slice_index}
+use Rattle.rv_form.specs.Machine.{store}
+use Rattle.rv_emulator.specs.Memory.{IsWhole, bytes_of, has_flag}
+use Rattle.rv_emulator.proofs.Digits.{some_bytes}
+use Rattle.rv_emulator.proofs.Places.{whole_fits, whole_flagged}
+use Rattle.rv_emulator.proofs.Stores.{whole_store}
+use Rattle.rv_emulator.proofs.memory.store.Goals as goal
+
+pub put_at-requires : goal.put_at-requires
+put_at-requires c =
+    let fits =
+    whole_fits c.args.regions.now c.args.bytes.now c.args.a (bytes_of c.args.width) c.in-Whole.at c.in-Whole.flags c.requires (some_bytes c.args.width)
+    (subst (λ n. IsWhole c.args.regions.now c.args.a n c.in-Whole.at c.in-Whole.flags) c.count.ensures c.in-Whole.ensures)
+    in
+    let same = c.count-in-Whole.ensures in omega arith
+
+pub returns-else-not-is_set-clause-answer : goal.returns-else-not-is_set-clause-answer
+returns-else-not-is_set-clause-answer c =
+    let set : has_flag c.in-Whole.flags 2 ≡ true = cc in
+    sym (whole_flagged c.args.regions.now 2 (bytes_of c.args.width) c.args.a c.in-Whole.at c.in-Whole.flags (some_bytes c.args.width)
+    (subst (λ n. IsWhole c.args.regions.now c.args.a n c.in-Whole.at c.in-Whole.flags) c.count.ensures c.in-Whole.ensures)
+    ∙ set)
+
+pub returns-else-not-is_set-clause-stored : goal.returns-else-not-is_set-clause-stored
+returns-else-not-is_set-clause-stored c =
+    whole_store c.args.regions.now c.args.bytes.now c.put_at.new.bytes c.args.a (bytes_of c.args.width) c.in-Whole.at c.in-Whole.flags c.args.value
+    (subst (λ n. IsWhole c.args.regions.now c.args.a n c.in-Whole.at c.in-Whole.flags) c.count.ensures c.in-Whole.ensures)
+    (subst (λ n. (k : ℕ) → slice_index c.put_at.new.bytes k ≡ store n (λ k. slice_index c.args.bytes.now k) c.in-Whole.at c.args.value k) c.count-in-Whole.ensures c.put_at.ensures.written)

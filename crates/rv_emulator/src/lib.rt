@@ -1,0 +1,9 @@
+//! The emulator: `load` makes a machine of an image, and `Machine::run` does the machine's steps.
+#![tactic(auto)]
+
+mod exec;
+mod memory;
+mod next;
+mod operation;
+mod region;
+mod registers;
