@@ -1,3 +1,6 @@
 mod Digits
+mod Fetching
 mod Places
+mod Playing
 mod Stores
+mod Systems

@@ -6,7 +6,8 @@ use Rattle.std.proofs.lemmas.List.{get_or-set_same, get_or-set_other}
 use Rattle.std.specs.Prelude.{nat_eq, nat_lt, nat_le, ◌&&◌, if◌then◌else◌, slice_index, slice_set}
 use Rattle.rv_form.specs.Machine.{store}
 use Rattle.rv_emulator.specs.declared.region.Region.{Region}
-use Rattle.rv_emulator.specs.Memory.{place_from, byte_in, memory_of, IsWhole}
+use Rattle.rv_emulator.specs.Memory.{place_from, flags_in, byte_in, memory_of, has_flag, all_flagged, IsWhole}
+use Rattle.rv_emulator.specs.States.{Kept}
 use Rattle.rv_emulator.proofs.Places.{one_address}
 
 pub store_in : (count : ℕ) (memory : ℕ → ℕ) (a value b : ℕ) → a ≤ b → b < a + count
@@ -159,3 +160,31 @@ store_then count memory a value some = fun_ext (λ b. go b (lies (a + 1) (count 
     go b (above high) (above high') =
         store_above (count - 1) (store 1 memory a value) (a + 1) (value / 256) b high
         ∙ (store_above 1 memory a value b high' ∙ sym (store_above count memory a value b (omega arith)))
+
+first_or_later : (regions : List Region) (flag a b : ℕ) → has_flag (flags_in regions a) flag ≡ true
+    → (a + 1 ≤ b → has_flag (flags_in regions b) flag ≡ true) → a ≤ b → has_flag (flags_in regions b) flag ≡ true
+first_or_later regions flag a b here later low = go (nat_eq a b) refl
+  where
+    go : (same : Bool) → nat_eq a b ≡ same → has_flag (flags_in regions b) flag ≡ true
+    go true p = let e : a ≡ b = grind arith in subst (λ x. has_flag (flags_in regions x) flag ≡ true) e here
+    go false p = later (grind arith)
+
+-- each byte of a stretch that may be used so may be
+flag_within : (regions : List Region) (flag count a b : ℕ) → all_flagged regions flag count a ≡ true → a ≤ b → b < a + count
+    → has_flag (flags_in regions b) flag ≡ true
+flag_within regions flag zero a b usable low high = absurd (omega arith)
+flag_within regions flag (suc count) a b usable low high =
+    let here : has_flag (flags_in regions a) flag ≡ true = grind arith in
+    let more : all_flagged regions flag count (a + 1) ≡ true = grind arith in
+    first_or_later regions flag a b here (λ later. flag_within regions flag count (a + 1) b more later (omega arith)) low
+
+-- a store changes no byte that may not be written
+pub store_keeps : (regions : List Region) (old new : List ℕ) (count a value : ℕ) → all_flagged regions 2 count a ≡ true
+    → memory_of regions new ≡ store count (memory_of regions old) a value → Kept regions old new
+store_keeps regions old new count a value usable stored b fixed =
+    ap (λ memory. memory b) stored ∙ go (lies a count b)
+  where
+    go : Lies a count b → store count (memory_of regions old) a value b ≡ memory_of regions old b
+    go (within low high) = let may : has_flag (flags_in regions b) 2 ≡ true = flag_within regions 2 count a b usable low high in cc
+    go (below low) = store_below count (memory_of regions old) a value b low
+    go (above high) = store_above count (memory_of regions old) a value b high

@@ -1,2 +1,4 @@
 pub mod Memory
 pub mod States
+pub mod Passing
+pub mod Loading

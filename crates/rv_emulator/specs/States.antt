@@ -1,16 +1,23 @@
 -- The machine's states as the emulator keeps them.
-use Rattle.std.specs.Prelude.{ℕ, ◌+◌, List, [], Option, Some, None, Bool, true, false, if◌then◌else◌, nat_eq, slice_index}
+use Rattle.std.specs.Prelude.{ℕ, pos, negsuc, ◌+◌, List, [], Option, Some, None, Result, Ok, Err, Bool, true, false, if◌then◌else◌, nat_eq, slice_index, slice_index_or, ◌≡◌, ◌<◌, ◌*◌, ◌^◌}
 use Rattle.scheme_base.specs.declared.env.Env.{Env}
 use Rattle.scheme_base.specs.Outside.{Calls}
 use Rattle.rv_form.specs.declared.instr.Instr.{Instr}
-use Rattle.rv_form.specs.Machine.{World, State, Run, Running, Ended, Trapped, Fetched, Found, NoWord, NoPlace, with_reg, asked, system}
+use Rattle.rv_form.specs.Machine.{World, State, Run, Running, Ended, Trapped, Fetched, Found, NoWord, NoPlace, with_reg, Ask, Answers, Reads, Writes, Sends, Leaves, Unknown, asked, system}
 use Rattle.rv_emulator.specs.declared.region.Region.{Region}
 use Rattle.rv_emulator.specs.declared.registers.Registers.{Registers}
 use Rattle.rv_emulator.specs.declared.next.Next.{Next}
 use Rattle.rv_emulator.specs.declared.next.Next.TheVariants as next
+use Rattle.rv_emulator.specs.declared.next.End.{End}
+use Rattle.rv_emulator.specs.declared.next.End.TheVariants as ends
+use Rattle.rv_emulator.specs.declared.system.Ask.{Ask as Wish}
+use Rattle.rv_emulator.specs.declared.system.Ask.TheVariants as wishes
 use Rattle.rv_emulator.specs.declared.memory.Fetched.{Fetched as Seen}
 use Rattle.rv_emulator.specs.declared.memory.Fetched.TheVariants as seen
 use Rattle.rv_emulator.specs.Memory.{allowed, memory_of}
+use Rattle.rv_form.specs.Instruction.{IsValid}
+use Rattle.rv_form.specs.Image.{Writing}
+use Rattle.rv_form.specs.Machine.{fetch}
 
 abbrev pub regs_of : Registers → ℕ → ℕ
 regs_of registers r = slice_index registers.words r
@@ -26,7 +33,6 @@ state_of pc registers regions bytes calls =
 abbrev pub done : World → (pc : ℕ) → Next → State → Run
 done w pc (next.Go to) s = Running (record s { pc = to })
 done w pc (next.Trap kind) s = Trapped kind pc s.calls
-done w pc (next.Exit status) s = Ended status s.calls
 done w pc next.Call s = system w (asked w (record s { pc = pc })) (record s { pc = pc })
 
 abbrev pub no_env : Env
@@ -53,3 +59,44 @@ with_loaded shape rd None regs = regs
 abbrev pub after_store : (pc : ℕ) → Bool → Next
 after_store pc true = next.Go (pc + 4)
 after_store pc false = next.Trap 4
+
+abbrev pub ask_as : Wish → Ask
+ask_as wishes.Nothing = Answers (pos 0)
+ask_as wishes.NoChannel = Answers (negsuc 8)
+ask_as wishes.NoPlace = Answers (negsuc 13)
+ask_as wishes.Reads = Reads
+ask_as (wishes.Writes byte) = Writes byte
+ask_as (wishes.Sends byte) = Sends byte
+ask_as (wishes.Leaves status) = Leaves status
+ask_as wishes.Unknown = Unknown
+
+abbrev pub ended_as : End → Calls → Run
+ended_as (ends.Exited status) calls = Ended status calls
+ended_as (ends.Trapped kind pc) calls = Trapped kind pc calls
+
+-- the run after a step: it goes on at a place, or has stopped
+abbrev pub turned : Result ℕ End → Registers → List Region → (bytes : List ℕ) → Calls → Run
+turned (Ok pc) registers regions bytes calls = Running (state_of pc registers regions bytes calls)
+turned (Err end) registers regions bytes calls = ended_as end calls
+
+-- bytes that may not be written are as they were
+abbrev pub Kept : List Region → (old new : List ℕ) → Type 0
+Kept regions old new = (a : ℕ) → allowed regions Writing a ≡ false → memory_of regions new a ≡ memory_of regions old a
+
+-- an instruction that stands at a place, and is never written over
+pub record StandsAt (regions : List Region) (bytes : List ℕ) (pc : ℕ) (instr : Instr) : Type 0 where
+  pub stands : fetch (world_with regions no_env) (memory_of regions bytes) pc ≡ Found instr
+  pub valid : IsValid instr
+  pub fixed : (i : ℕ) → i < 4 → allowed regions Writing (pc + i) ≡ false
+  pub low : pc < 2 ^ 47
+
+-- instructions that were read once, from `base` on, stand there
+abbrev pub IsCached : List Region → (bytes : List ℕ) → (base : ℕ) → List (Option Instr) → Type 0
+IsCached regions bytes base words =
+    (k : ℕ) (instr : Instr) → slice_index_or words k None ≡ Some instr → StandsAt regions bytes (base + 4 * k) instr
+
+-- the kind of a trap that a run has come to
+abbrev pub trap_of : Run → Option ℕ
+trap_of (Running s) = None
+trap_of (Ended status calls) = None
+trap_of (Trapped kind pc calls) = Some kind

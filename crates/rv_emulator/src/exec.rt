@@ -6,7 +6,7 @@ ghost use Rattle.rv_form.specs.Instruction.{IsValid};
 ghost use Rattle.rv_form.specs.Numbers.{add as sum_of, extended as extended_of, word as word_of};
 ghost use Rattle.rv_form.specs.Machine.{act, as_it_is, with_reg};
 ghost use Rattle.rv_emulator.specs.Memory.{Laid};
-ghost use Rattle.rv_emulator.specs.States.{after_load, after_store, done, reads, regs_of, state_of, with_loaded, world_with};
+ghost use Rattle.rv_emulator.specs.States.{Kept, after_load, after_store, done, reads, regs_of, state_of, with_loaded, world_with};
 
 use crate::memory::{load, store};
 use crate::next::Next;
@@ -27,6 +27,7 @@ pub fn exec(instr: Instr, pc: u64, registers: &mut Registers, regions: &[Region]
     requires laid { Laid regions.now bytes.old }
     ensures done { (env : Env) (calls : Calls) → act (world_with regions.now env) instr (state_of pc registers.old regions.now bytes.old calls) ≡ done (world_with regions.now env) pc result (state_of pc registers.new regions.now bytes.new calls) }
     ensures laid { Laid regions.now bytes.new }
+    ensures kept { Kept regions.now bytes.old bytes.new }
 {
     match instr {
         Instr::Lui { rd, imm } => put(pc, rd, upper(imm), registers),

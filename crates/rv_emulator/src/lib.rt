@@ -2,8 +2,12 @@
 #![tactic(auto)]
 
 mod exec;
+mod loading;
 mod memory;
 mod next;
 mod operation;
 mod region;
 mod registers;
+mod step;
+mod system;
+mod trap;

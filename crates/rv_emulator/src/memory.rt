@@ -1,12 +1,14 @@
 //! Loads, stores and the fetching of instructions.
 ghost use Rattle.std.specs.Prelude.{◌≡◌, ◌+◌, ◌<◌, ◌≤◌, ◌^◌, ℕ, IfSome, length, slice_index, true};
 ghost use Rattle.std.specs.Bool.{OnTrue};
+ghost use Rattle.rv_form.specs.declared.instr.Instr.{Instr as Instruction};
+ghost use Rattle.rv_form.specs.Instruction.{IsValid};
 ghost use Rattle.rv_form.specs.Machine.{fetch as fetched_in, load as load_in, store as store_in};
 ghost use Rattle.rv_emulator.specs.Memory.{AreLow, Laid, all_flagged, bytes_of, loaded_by, memory_of, total_of};
-ghost use Rattle.rv_emulator.specs.States.{fetched_as, no_env, world_with};
+ghost use Rattle.rv_emulator.specs.States.{Kept, fetched_as, no_env, world_with};
 
 use crate::region::{find, is_set, Place, Region, Width, EXECUTES, WRITES};
-use rv_encode::decode;
+use rv_encode::{decode, decoded_is_encoded};
 use rv_form::Instr;
 
 /// What stands at a place of an instruction.
@@ -23,7 +25,8 @@ pub enum Fetched {
 #[inline(never)]
 pub fn fetch(regions: &[Region], bytes: &[u8], pc: u64) -> Fetched
     requires { Laid regions.now bytes.now }
-    ensures { fetched_in (world_with regions.now no_env) (memory_of regions.now bytes.now) pc ≡ fetched_as result }
+    ensures value { fetched_in (world_with regions.now no_env) (memory_of regions.now bytes.now) pc ≡ fetched_as result }
+    ensures valid { (instr : Instruction) → result ≡ Fetched.Found instr → IsValid instr × (pc < 2 ^ 47) }
 {
     if pc % 4 != 0 {
         return Fetched::NoPlace;
@@ -32,7 +35,10 @@ pub fn fetch(regions: &[Region], bytes: &[u8], pc: u64) -> Fetched
         None => Fetched::NoPlace,
         Some(word) => match decode(word as u32) {
             None => Fetched::NoWord,
-            Some(instr) => Fetched::Found(instr),
+            Some(instr) => {
+                decoded_is_encoded(word as u32, instr);
+                Fetched::Found(instr)
+            }
         },
     }
 }
@@ -137,6 +143,7 @@ pub fn store(regions: &[Region], bytes: &mut [u8], width: Width, a: u64, value: 
     ensures answer { result ≡ all_flagged regions.now 2 (bytes_of width) a }
     ensures stored { OnTrue result (memory_of regions.now bytes.new ≡ store_in (bytes_of width) (memory_of regions.now bytes.old) a value) }
     ensures laid { Laid regions.now bytes.new }
+    ensures kept { Kept regions.now bytes.old bytes.new }
 {
     match find(regions, a, width.count()) {
         Place::Whole { at, flags } => {

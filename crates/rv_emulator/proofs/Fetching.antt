@@ -1,0 +1,103 @@
+-- Instructions that were read once stay what is fetched.
+use Rattle.std.proofs.Common.{◌≡◌, ℕ, zero, suc, ◌++◌, ◌+◌, ◌-◌, ◌*◌, ◌/◌, ◌%◌, ◌^◌, ◌<◌, ◌≤◌, true, false, Bool, List, [], ◌∷◌, length, Option, Some, None, refl, sym, ap, subst, ◌∙◌, arith}
+use Rattle.std.proofs.Math.ListN.{get_or-append, length-append}
+use Rattle.std.proofs.Math.Seq.{get_or-append_seam}
+use Rattle.std.specs.Prelude.{nat_eq, nat_lt, ◌&&◌, slice_index_or}
+use Rattle.rv_form.specs.declared.instr.Instr.{Instr}
+use Rattle.rv_form.specs.Image.{Executing}
+use Rattle.rv_form.specs.Machine.{Found, found, fetched, fetch, load, all_allowed}
+use Rattle.rv_form.specs.Instruction.{instruction_of}
+use Rattle.rv_emulator.specs.declared.region.Region.{Region}
+use Rattle.rv_emulator.specs.Memory.{place_from, flags_in, has_flag, all_flagged, loaded_by, memory_of, AreLow}
+use Rattle.rv_emulator.specs.States.{world_with, no_env, Kept, StandsAt, IsCached}
+use Rattle.rv_emulator.proofs.Places.{low_place}
+
+-- an address at which something may be done lies below 2^47
+pub flagged_low : (regions : List Region) (flag a : ℕ) → AreLow regions → 0 < flag
+    → has_flag (flags_in regions a) flag ≡ true → a < 2 ^ 47
+flagged_low [] flag a low some set = grind arith
+flagged_low (region ∷ rest) flag a low some set =
+    let first = low.0 in
+    let more : has_flag (flags_in rest a) flag ≡ true → a < 2 ^ 47 = flagged_low rest flag a low.1 some in
+    grind arith
+
+pub loaded_low : (regions : List Region) (bytes : List ℕ) (flag count a value : ℕ) → AreLow regions → 0 < flag
+    → Some value ≡ loaded_by regions bytes flag (suc count) a → a < 2 ^ 47
+loaded_low regions bytes flag count a value low some is =
+    let set : has_flag (flags_in regions a) flag ≡ true = grind arith in flagged_low regions flag a low some set
+
+four_bytes : (m m' : ℕ → ℕ) (a : ℕ) → ((i : ℕ) → i < 4 → m' (a + i) ≡ m (a + i)) → load 4 m' a ≡ load 4 m a
+four_bytes m m' a same =
+    let e0 : a + 0 ≡ a = omega arith in
+    let e2 : a + 2 ≡ a + 1 + 1 = omega arith in
+    let e3 : a + 3 ≡ a + 1 + 1 + 1 = omega arith in
+    let b0 : m' a ≡ m a = subst (λ b. m' b ≡ m b) e0 (same 0 (omega arith)) in
+    let b1 : m' (a + 1) ≡ m (a + 1) = same 1 (omega arith) in
+    let b2 : m' (a + 1 + 1) ≡ m (a + 1 + 1) = subst (λ b. m' b ≡ m b) e2 (same 2 (omega arith)) in
+    let b3 : m' (a + 1 + 1 + 1) ≡ m (a + 1 + 1 + 1) = subst (λ b. m' b ≡ m b) e3 (same 3 (omega arith)) in
+    rw (b0, b1, b2, b3) refl
+
+-- where the bytes that may not be written are as they were, what stands stays
+pub stands_kept : (regions : List Region) (old new : List ℕ) (pc : ℕ) (instr : Instr) → Kept regions old new
+    → StandsAt regions old pc instr → StandsAt regions new pc instr
+stands_kept regions old new pc instr kept one =
+    let same : load 4 (memory_of regions new) pc ≡ load 4 (memory_of regions old) pc =
+    four_bytes (memory_of regions old) (memory_of regions new) pc (λ i within. kept (pc + i) (one.fixed i within))
+    in
+    record {
+      stands = by_load (nat_eq (pc % 4) 0 && all_allowed (world_with regions no_env) Executing 4 pc) same ∙ one.stands;
+      valid = one.valid;
+      fixed = one.fixed;
+      low = one.low;
+    }
+  where
+    by_load : (placed : Bool) → load 4 (memory_of regions new) pc ≡ load 4 (memory_of regions old) pc
+        → fetched placed (memory_of regions new) pc ≡ fetched placed (memory_of regions old) pc
+    by_load true same = ap (λ n. found (instruction_of n)) same
+    by_load false same = refl
+
+pub cached_kept : (regions : List Region) (old new : List ℕ) (base : ℕ) (words : List (Option Instr)) → Kept regions old new
+    → IsCached regions old base words → IsCached regions new base words
+cached_kept regions old new base words kept cached =
+    λ k instr is. stands_kept regions old new (base + 4 * k) instr kept (cached k instr is)
+
+pub cached_at : (regions : List Region) (bytes : List ℕ) (base : ℕ) (words : List (Option Instr)) (pc : ℕ) (instr : Instr)
+    → IsCached regions bytes base words → base ≤ pc → (pc - base) % 4 ≡ 0
+    → slice_index_or words ((pc - base) / 4) None ≡ Some instr → StandsAt regions bytes pc instr
+cached_at regions bytes base words pc instr cached from even is =
+    let e : base + 4 * ((pc - base) / 4) ≡ pc = omega arith in
+    subst (λ p. StandsAt regions bytes p instr) e (cached ((pc - base) / 4) instr is)
+
+data Order (m n : ℕ) : Type 0 where
+  less : (low : m < n) → Order m n
+  same : (e : m ≡ n) → Order m n
+  more : (high : n < m) → Order m n
+
+order : (m n : ℕ) → Order m n
+order m n = go (nat_lt m n) refl (nat_lt n m) refl
+  where
+    go : (low : Bool) → nat_lt m n ≡ low → (high : Bool) → nat_lt n m ≡ high → Order m n
+    go true p high q = less (grind arith)
+    go false p true q = more (grind arith)
+    go false p false q = same (grind arith)
+
+none_beyond : {A : Type 0} (xs : List (Option A)) (k : ℕ) → length xs ≤ k → slice_index_or xs k None ≡ None
+none_beyond [] k low = refl
+none_beyond (x ∷ xs) zero low = absurd (omega arith)
+none_beyond (x ∷ xs) (suc k) low = none_beyond xs k (omega arith)
+
+-- one more instruction is read
+pub cached_more : (regions : List Region) (bytes : List ℕ) (base : ℕ) (words : List (Option Instr)) (last : Option Instr)
+    → IsCached regions bytes base words
+    → ((instr : Instr) → last ≡ Some instr → StandsAt regions bytes (base + 4 * length words) instr)
+    → IsCached regions bytes base (words ++ last ∷ [])
+cached_more regions bytes base words last cached one k instr is = go (order k (length words))
+  where
+    go : Order k (length words) → StandsAt regions bytes (base + 4 * k) instr
+    go (less low) = cached k instr (sym (get_or-append words (last ∷ []) None k low) ∙ is)
+    go (same e) =
+        subst (λ n. StandsAt regions bytes (base + 4 * n) instr) (sym e)
+        (one instr (sym (get_or-append_seam words last [] None) ∙ subst (λ n. slice_index_or (words ++ last ∷ []) n None ≡ Some instr) e is))
+    go (more high) =
+        let past : length (words ++ last ∷ []) ≤ k = rw (length-append words (last ∷ [])) (omega arith) in
+        let none = none_beyond (words ++ last ∷ []) k past in cc

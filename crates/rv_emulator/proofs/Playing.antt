@@ -1,0 +1,90 @@
+-- Runs with a console, one after another.
+use Rattle.std.proofs.Common.{◌≡◌, ℕ, zero, suc, ◌+◌, ◌-◌, ◌<◌, ◌≤◌, List, [], ◌∷◌, ◌++◌, refl, sym, ap, ◌∙◌, subst, arith}
+use Rattle.scheme_base.specs.declared.env.Env.{Env}
+use Rattle.scheme_base.specs.Outside.{Calls}
+use Rattle.scheme_base.specs.Runs.{Machine, after}
+use Rattle.scheme_base.proofs.Runs.{after-add}
+use Rattle.rv_form.specs.Machine.{World, Run, machine_in, step}
+use Rattle.rv_emulator.specs.declared.next.End.{End}
+use Rattle.rv_emulator.specs.declared.next.End.TheVariants as ends
+use Rattle.rv_emulator.specs.States.{ended_as}
+use Rattle.rv_emulator.specs.Passing.{Told, Call, Passes, IsCall, AnswersAs, after_call, calls_with, Gives, Plays}
+
+-- nothing was called
+pub plays_alone : {from : Env → Calls → Run} {to : Calls → Run} {before : Told}
+    → ((env : Env) (calls : Calls) → from env calls ≡ to calls) → Plays from to before before
+plays_alone is = record { made = []; passes = refl; runs = λ env calls gives. is env calls }
+
+passes_then : (made earlier : List Call) (before between now : Told) → Passes earlier before between → Passes made between now
+    → Passes (made ++ earlier) before now
+passes_then [] earlier before between now first second = subst (λ t. Passes earlier before t) (sym second) first
+passes_then (call ∷ made) earlier before between now first second =
+    (second.0, passes_then made earlier before between second.0 first second.1, second.2)
+
+calls_then : (env : Env) (calls : Calls) (made earlier : List Call)
+    → calls_with env calls (made ++ earlier) ≡ calls_with env (calls_with env calls earlier) made
+calls_then env calls [] earlier = refl
+calls_then env calls (call ∷ made) earlier = ap (after_call env call) (calls_then env calls made earlier)
+
+-- what was given in the whole was given in each part
+pub record Parts (env : Env) (calls : Calls) (made earlier : List Call) : Type 0 where
+  pub first : Gives env calls earlier
+  pub second : Gives env (calls_with env calls earlier) made
+
+parts : (env : Env) (calls : Calls) (made earlier : List Call) → Gives env calls (made ++ earlier) → Parts env calls made earlier
+parts env calls [] earlier gives = record { first = gives; second = tt }
+parts env calls (call ∷ made) earlier gives =
+    let more = parts env calls made earlier gives.0 in
+    record {
+      first = more.first;
+      second = (more.second, subst (λ cs. AnswersAs env cs call) (calls_then env calls made earlier) gives.1);
+    }
+
+-- a run, and then one from where it has come to
+pub plays_then : {from : Env → Calls → Run} {middle to : Calls → Run} {before between now : Told}
+    → (again : Env → Run → Run) → Plays from middle before between → Plays (λ env calls. again env (middle calls)) to between now
+    → Plays (λ env calls. again env (from env calls)) to before now
+plays_then {from = from} {middle = middle} {to = to} {before = before} {between = between} {now = now} again one other =
+    record {
+      made = other.made ++ one.made;
+      passes = passes_then other.made one.made before between now one.passes other.passes;
+      runs = λ env calls gives.
+          let both = parts env calls other.made one.made gives in
+          ap (again env) (one.runs env calls both.first)
+          ∙ (other.runs env (calls_with env calls one.made) both.second
+          ∙ ap to (sym (calls_then env calls other.made one.made)));
+    }
+
+pub plays_same : {from from' : Env → Calls → Run} {to : Calls → Run} {before now : Told}
+    → ((env : Env) (calls : Calls) → from' env calls ≡ from env calls) → Plays from to before now → Plays from' to before now
+plays_same same one =
+    record { made = one.made; passes = one.passes; runs = λ env calls gives. same env calls ∙ one.runs env calls gives }
+
+-- one step more
+pub after_one_more : (w : World) (n : ℕ) (run : Run) → after (machine_in w) (n + 1) run ≡ step w (after (machine_in w) n run)
+after_one_more w n run = after-add (machine_in w) n 1 run
+
+-- what comes after a run leaves it as it is
+pub plays_on : {from : Env → Calls → Run} {to : Calls → Run} {before now : Told} (again : Env → Run → Run)
+    → ((env : Env) (calls : Calls) → again env (to calls) ≡ to calls) → Plays from to before now
+    → Plays (λ env calls. again env (from env calls)) to before now
+plays_on {to = to} again stays one =
+    record {
+      made = one.made;
+      passes = one.passes;
+      runs = λ env calls gives.
+          ap (again env) (one.runs env calls gives) ∙ stays env (calls_with env calls one.made);
+    }
+
+pub ended_stays : (w : World) (n : ℕ) (end : End) (calls : Calls) → after (machine_in w) n (ended_as end calls) ≡ ended_as end calls
+ended_stays w zero end calls = refl
+ended_stays w (suc n) (ends.Exited status) calls = ended_stays w n (ends.Exited status) calls
+ended_stays w (suc n) (ends.Trapped kind pc) calls = ended_stays w n (ends.Trapped kind pc) calls
+
+pub after_rest : (w : World) (n count : ℕ) (run : Run) → n < count
+    → after (machine_in w) count run ≡ after (machine_in w) (count - (n + 1)) (step w (after (machine_in w) n run))
+after_rest w n count run within =
+    let e : count ≡ n + 1 + (count - (n + 1)) = omega arith in
+    ap (λ k. after (machine_in w) k run) e
+    ∙ (after-add (machine_in w) (n + 1) (count - (n + 1)) run
+    ∙ ap (after (machine_in w) (count - (n + 1))) (after_one_more w n run))

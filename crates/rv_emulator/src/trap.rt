@@ -1,0 +1,120 @@
+//! Whether the next step is none: what a machine that has used up its steps looks at.
+ghost use Rattle.std.specs.Prelude.{◌≡◌, ◌<◌, ◌^◌, ℕ, true, Some, None, if◌then◌else◌};
+ghost use Rattle.scheme_base.specs.declared.env.Env.{Env};
+ghost use Rattle.scheme_base.specs.Outside.{Calls};
+ghost use Rattle.rv_form.specs.Instruction.{IsValid};
+ghost use Rattle.rv_form.specs.Numbers.{add as sum_of, word as word_of};
+ghost use Rattle.rv_form.specs.Machine.{Running, act, step as step_in};
+ghost use Rattle.rv_emulator.specs.Memory.{Laid, all_flagged, bytes_of};
+ghost use Rattle.rv_emulator.specs.States.{IsCached, reads, state_of, trap_of, world_with};
+
+use crate::memory::{may, Fetched};
+use crate::operation::{add, word};
+use crate::region::{Region, Width, READS, WRITES};
+use crate::registers::Registers;
+use crate::step::instruction_at;
+use crate::system::{asked, Ask};
+use rv_form::Instr;
+
+/// The kind of trap that stands at `pc`, if any.
+pub fn trap_at(
+    base: u64,
+    words: &[Option<Instr>],
+    pc: u64,
+    registers: &Registers,
+    regions: &[Region],
+    bytes: &[u8],
+) -> Option<u8>
+    requires laid { Laid regions.now bytes.now }
+    requires cached { IsCached regions.now bytes.now base words.now }
+    ensures { (env : Env) (calls : Calls) → trap_of (step_in (world_with regions.now env) (Running (state_of pc registers.now regions.now bytes.now calls))) ≡ result }
+{
+    match instruction_at(base, words, pc, regions, bytes) {
+        Fetched::Found(instr) => instruction_trap(instr, registers, regions, bytes),
+        Fetched::NoWord => Some(1),
+        Fetched::NoPlace => Some(2),
+    }
+}
+
+/// The kind of trap that an instruction comes to, if any.
+fn instruction_trap(instr: Instr, registers: &Registers, regions: &[Region], bytes: &[u8]) -> Option<u8>
+    requires valid { IsValid instr }
+    requires laid { Laid regions.now bytes.now }
+    ensures { (pc : ℕ) (env : Env) (calls : Calls) → trap_of (act (world_with regions.now env) instr (state_of pc registers.now regions.now bytes.now calls)) ≡ result }
+{
+    match instr {
+        Instr::Lb { rs1, imm, .. } => load_trap(Width::Byte, rs1, imm, registers, regions, bytes),
+        Instr::Lbu { rs1, imm, .. } => load_trap(Width::Byte, rs1, imm, registers, regions, bytes),
+        Instr::Lh { rs1, imm, .. } => load_trap(Width::Half, rs1, imm, registers, regions, bytes),
+        Instr::Lhu { rs1, imm, .. } => load_trap(Width::Half, rs1, imm, registers, regions, bytes),
+        Instr::Lw { rs1, imm, .. } => load_trap(Width::Word, rs1, imm, registers, regions, bytes),
+        Instr::Lwu { rs1, imm, .. } => load_trap(Width::Word, rs1, imm, registers, regions, bytes),
+        Instr::Ld { rs1, imm, .. } => load_trap(Width::Double, rs1, imm, registers, regions, bytes),
+        Instr::Sb { rs1, imm, .. } => store_trap(Width::Byte, rs1, imm, registers, regions, bytes),
+        Instr::Sh { rs1, imm, .. } => store_trap(Width::Half, rs1, imm, registers, regions, bytes),
+        Instr::Sw { rs1, imm, .. } => store_trap(Width::Word, rs1, imm, registers, regions, bytes),
+        Instr::Sd { rs1, imm, .. } => store_trap(Width::Double, rs1, imm, registers, regions, bytes),
+        Instr::Ecall => call_trap(registers, regions, bytes),
+        Instr::Ebreak => Some(6),
+        _ => None,
+    }
+}
+
+/// The trap of a load from the address that a register and an immediate give.
+fn load_trap(
+    width: Width,
+    rs1: u8,
+    imm: i32,
+    registers: &Registers,
+    regions: &[Region],
+    bytes: &[u8],
+) -> Option<u8>
+    requires register { rs1 < 32 }
+    requires laid { Laid regions.now bytes.now }
+    ensures { result ≡ if all_flagged regions.now 4 (bytes_of width) (sum_of (reads registers.now rs1) (word_of imm)) then None else Some 3 }
+{
+    let _ = bytes;
+    if may(regions, READS, width.count(), add(registers.read(rs1), word(imm))) {
+        None
+    } else {
+        Some(3)
+    }
+}
+
+/// The trap of a store to the address that a register and an immediate give.
+fn store_trap(
+    width: Width,
+    rs1: u8,
+    imm: i32,
+    registers: &Registers,
+    regions: &[Region],
+    bytes: &[u8],
+) -> Option<u8>
+    requires register { rs1 < 32 }
+    requires laid { Laid regions.now bytes.now }
+    ensures { result ≡ if all_flagged regions.now 2 (bytes_of width) (sum_of (reads registers.now rs1) (word_of imm)) then None else Some 4 }
+{
+    let _ = bytes;
+    if may(regions, WRITES, width.count(), add(registers.read(rs1), word(imm))) {
+        None
+    } else {
+        Some(4)
+    }
+}
+
+/// The trap of a system call.
+fn call_trap(registers: &Registers, regions: &[Region], bytes: &[u8]) -> Option<u8>
+    requires { Laid regions.now bytes.now }
+    ensures { (pc : ℕ) (env : Env) (calls : Calls) → trap_of (act (world_with regions.now env) Instr.Ecall (state_of pc registers.now regions.now bytes.now calls)) ≡ result }
+{
+    match asked(registers, regions, bytes) {
+        Ask::Nothing => None,
+        Ask::NoChannel => None,
+        Ask::NoPlace => None,
+        Ask::Reads => None,
+        Ask::Writes(_) => None,
+        Ask::Sends(_) => None,
+        Ask::Leaves(_) => None,
+        Ask::Unknown => Some(5),
+    }
+}
