@@ -5,12 +5,11 @@ use Rattle.std.proofs.Math.Seq.{get_or-append_seam}
 use Rattle.std.specs.Prelude.{nat_eq, nat_lt, ◌&&◌, slice_index_or}
 use Rattle.rv_form.specs.declared.instr.Instr.{Instr}
 use Rattle.rv_form.specs.Image.{Executing}
-use Rattle.rv_form.specs.Machine.{Found, found, fetched, fetch, load, all_allowed}
+use Rattle.rv_form.specs.Machine.{found, fetched, load, all_allowed}
 use Rattle.rv_form.specs.Instruction.{instruction_of}
 use Rattle.rv_emulator.specs.declared.region.Region.{Region}
-use Rattle.rv_emulator.specs.Memory.{place_from, flags_in, has_flag, all_flagged, loaded_by, memory_of, AreLow}
+use Rattle.rv_emulator.specs.Memory.{flags_in, has_flag, loaded_by, memory_of, AreLow}
 use Rattle.rv_emulator.specs.States.{world_with, no_env, Kept, StandsAt, IsCached}
-use Rattle.rv_emulator.proofs.Places.{low_place}
 
 -- an address at which something may be done lies below 2^47
 pub flagged_low : (regions : List Region) (flag a : ℕ) → AreLow regions → 0 < flag

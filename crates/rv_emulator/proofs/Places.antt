@@ -1,9 +1,9 @@
 -- Where bytes stand: one place for each address, and whole stretches of them.
-use Rattle.std.proofs.Common.{◌≡◌, ℕ, zero, suc, ◌+◌, ◌-◌, ◌*◌, ◌/◌, ◌%◌, ◌^◌, ◌<◌, ◌≤◌, Bool, true, false, List, [], ◌∷◌, length, Option, Some, None, refl, sym, ap, subst, ◌∙◌, arith}
-use Rattle.std.specs.Prelude.{nat_eq, nat_lt, nat_le, ◌&&◌, if◌then◌else◌, slice_index}
+use Rattle.std.proofs.Common.{◌≡◌, ℕ, zero, suc, ◌+◌, ◌-◌, ◌*◌, ◌^◌, ◌<◌, ◌≤◌, true, false, List, [], ◌∷◌, length, Option, Some, None, refl, ap, ◌∙◌, arith}
+use Rattle.std.specs.Prelude.{slice_index}
 use Rattle.rv_form.specs.Machine.{load}
 use Rattle.rv_emulator.specs.declared.region.Region.{Region}
-use Rattle.rv_emulator.specs.Memory.{has, place_from, flags_in, byte_in, memory_of, has_flag, all_flagged, loaded_by, total_of, AreLow, Laid, IsWhole}
+use Rattle.rv_emulator.specs.Memory.{place_from, flags_in, byte_in, memory_of, has_flag, all_flagged, loaded_by, total_of, AreLow, Laid, IsWhole}
 
 pub low_place : (from : ℕ) (regions : List Region) (a at : ℕ) → AreLow regions → place_from from regions a ≡ Some at → a < 2 ^ 47
 low_place from [] a at low is = cc
@@ -37,7 +37,7 @@ pub one_address : (from : ℕ) (regions : List Region) (a b at : ℕ)
 one_address from [] a b at is too = cc
 one_address from (region ∷ rest) a b at is too =
     let more :
-            place_from (from + region.size) rest a ≡ Some at → place_from (from + region.size) rest b ≡ Some at → a ≡ b =
+    place_from (from + region.size) rest a ≡ Some at → place_from (from + region.size) rest b ≡ Some at → a ≡ b =
     one_address (from + region.size) rest a b at
     in
     let above_a : place_from (from + region.size) rest a ≡ Some at → from + region.size ≤ at =

@@ -1,14 +1,14 @@
 -- Runs with a console, one after another.
-use Rattle.std.proofs.Common.{◌≡◌, ℕ, zero, suc, ◌+◌, ◌-◌, ◌<◌, ◌≤◌, List, [], ◌∷◌, ◌++◌, refl, sym, ap, ◌∙◌, subst, arith}
+use Rattle.std.proofs.Common.{◌≡◌, ℕ, zero, suc, ◌+◌, ◌-◌, ◌<◌, List, [], ◌∷◌, ◌++◌, refl, sym, ap, ◌∙◌, subst, arith}
 use Rattle.scheme_base.specs.declared.env.Env.{Env}
 use Rattle.scheme_base.specs.Outside.{Calls}
-use Rattle.scheme_base.specs.Runs.{Machine, after}
+use Rattle.scheme_base.specs.Runs.{after}
 use Rattle.scheme_base.proofs.Runs.{after-add}
 use Rattle.rv_form.specs.Machine.{World, Run, machine_in, step}
 use Rattle.rv_emulator.specs.declared.next.End.{End}
 use Rattle.rv_emulator.specs.declared.next.End.TheVariants as ends
 use Rattle.rv_emulator.specs.States.{ended_as}
-use Rattle.rv_emulator.specs.Passing.{Told, Call, Passes, IsCall, AnswersAs, after_call, calls_with, Gives, Plays}
+use Rattle.rv_emulator.specs.Passing.{Told, Call, Passes, AnswersAs, after_call, calls_with, Gives, Plays}
 
 -- nothing was called
 pub plays_alone : {from : Env → Calls → Run} {to : Calls → Run} {before : Told}

@@ -1,9 +1,9 @@
 -- What a store does to memory.
-use Rattle.std.proofs.Common.{◌≡◌, ◌≢◌, ℕ, zero, suc, ◌+◌, ◌-◌, ◌*◌, ◌/◌, ◌%◌, ◌^◌, ◌<◌, ◌≤◌, Bool, true, false, List, [], ◌∷◌, length, Option, Some, None, refl, sym, ap, subst, ◌∙◌, arith}
+use Rattle.std.proofs.Common.{◌≡◌, ◌≢◌, ℕ, zero, suc, ◌+◌, ◌-◌, ◌*◌, ◌/◌, ◌%◌, ◌^◌, ◌<◌, ◌≤◌, Bool, true, false, List, length, Option, Some, None, refl, sym, ap, subst, ◌∙◌, arith}
 use Rattle.std.proofs.Math.Path.{fun_ext}
 use Rattle.std.proofs.Math.Nat.{div-div-eq-div-mul, pow-suc, pow-succ'}
 use Rattle.std.proofs.lemmas.List.{get_or-set_same, get_or-set_other}
-use Rattle.std.specs.Prelude.{nat_eq, nat_lt, nat_le, ◌&&◌, if◌then◌else◌, slice_index, slice_set}
+use Rattle.std.specs.Prelude.{nat_eq, nat_lt, nat_le, ◌&&◌, slice_index, slice_set}
 use Rattle.rv_form.specs.Machine.{store}
 use Rattle.rv_emulator.specs.declared.region.Region.{Region}
 use Rattle.rv_emulator.specs.Memory.{place_from, flags_in, byte_in, memory_of, has_flag, all_flagged, IsWhole}
@@ -56,6 +56,7 @@ put_more bytes old at i value rest fits before is k = go (lies at i k)
   where
     other : k ≢ at + i → slice_index (slice_set bytes (at + i) (rest % 256)) k ≡ store i old at value k
     other differs = get_or-set_other bytes (at + i) k (rest % 256) 0 differs ∙ before k
+
     go : Lies at i k → slice_index (slice_set bytes (at + i) (rest % 256)) k ≡ store (i + 1) old at value k
     go (within low high) =
         other (omega arith)
@@ -104,6 +105,7 @@ whole_store regions old new a count at flags value whole written = fun_ext (λ b
     same b out (Some j) is =
         ap (byte_in new) is
         ∙ (untouched regions old new a count at flags value b j whole written is out ∙ sym (ap (byte_in old) is))
+
     go : (b : ℕ) → Lies a count b → memory_of regions new b ≡ store count (memory_of regions old) a value b
     go b (within low high) =
         let e : a + (b - a) ≡ b = omega arith in
@@ -128,10 +130,10 @@ pub one_store : (regions : List Region) (old : List ℕ) (a at flags value : ℕ
     → memory_of regions (slice_set old at (value % 256)) ≡ store 1 (memory_of regions old) a value
 one_store regions old a at flags value whole fits =
     whole_store regions old (slice_set old at (value % 256)) a 1 at flags value whole (λ k.
-        let none : (k : ℕ) → slice_index old k ≡ store 0 (λ k. slice_index old k) at value k = λ k. none_at k in
-        let e : at + 0 ≡ at = omega arith in
-        subst (λ n. slice_index (slice_set old n (value % 256)) k ≡ store 1 (λ k. slice_index old k) at value k) e
-        (put_more old (λ k. slice_index old k) at 0 value value (omega arith) none (grind arith) k))
+    let none : (k : ℕ) → slice_index old k ≡ store 0 (λ k. slice_index old k) at value k = λ k. none_at k in
+    let e : at + 0 ≡ at = omega arith in
+    subst (λ n. slice_index (slice_set old n (value % 256)) k ≡ store 1 (λ k. slice_index old k) at value k) e
+    (put_more old (λ k. slice_index old k) at 0 value value (omega arith) none (grind arith) k))
   where
     none_at : (k : ℕ) → slice_index old k ≡ store 0 (λ k. slice_index old k) at value k
     none_at k = grind arith

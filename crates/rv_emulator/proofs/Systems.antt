@@ -1,12 +1,11 @@
 -- What a system call comes to, once it is known what is asked.
-use Rattle.std.proofs.Common.{◌≡◌, ℕ, ◌+◌, List, refl, sym, ap, ◌∙◌}
+use Rattle.std.proofs.Common.{◌≡◌, ℕ, ◌+◌, List, sym, ap, ◌∙◌}
 use Rattle.std.specs.Prelude.{ℤ}
-use Rattle.scheme_base.specs.declared.env.Env.{Env}
 use Rattle.scheme_base.specs.Outside.{Calls, next_fails, next_error_fails, read_event, write_event, after_read, after_write, after_send}
 use Rattle.stalin_outside.specs.declared.console.In.{In}
 use Rattle.stalin_outside.specs.declared.console.Out.{Out}
 use Rattle.rv_form.specs.Numbers.{word}
-use Rattle.rv_form.specs.Machine.{World, State, Run, Running, Ask, Answers, Reads, Writes, Sends, answer_of, answered, received, with_reg, reg, system}
+use Rattle.rv_form.specs.Machine.{World, Run, Running, Ask, Answers, Reads, Writes, Sends, answer_of, received, with_reg, system}
 use Rattle.rv_emulator.specs.declared.region.Region.{Region}
 use Rattle.rv_emulator.specs.declared.registers.Registers.{Registers}
 use Rattle.rv_emulator.specs.Memory.{memory_of}

@@ -2,3 +2,4 @@ pub mod Memory
 pub mod States
 pub mod Passing
 pub mod Loading
+pub mod Held

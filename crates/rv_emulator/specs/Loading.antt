@@ -1,6 +1,5 @@
 -- How an image is loaded.
-use Rattle.std.specs.Prelude.{ℕ, ◌≡◌, ◌+◌, ◌-◌, ◌^◌, ◌≤◌, List, [], ◌∷◌, ◌++◌, length, map, replicate}
-use Rattle.scheme_base.specs.declared.env.Env.{Env}
+use Rattle.std.specs.Prelude.{ℕ, ◌+◌, ◌-◌, ◌^◌, ◌≤◌, List, [], ◌∷◌, ◌++◌, length, replicate}
 use Rattle.rv_form.specs.declared.image.Segment.{Segment}
 use Rattle.rv_emulator.specs.declared.region.Region.{Region}
 

@@ -1,6 +1,6 @@
 -- Memory as the emulator keeps it: a table of regions that never changes, and the bytes of all of them, one
 -- region's after another's.
-use Rattle.std.specs.Prelude.{ℕ, zero, suc, ◌≡◌, ◌+◌, ◌-◌, ◌/◌, ◌%◌, ◌^◌, ◌≤◌, ◌<◌, List, [], ◌∷◌, length, Option, Some, None, Bool, true, false, if◌then◌else◌, nat_eq, nat_lt, nat_le, ◌&&◌, slice_index}
+use Rattle.std.specs.Prelude.{ℕ, zero, suc, ◌≡◌, ◌+◌, ◌-◌, ◌/◌, ◌%◌, ◌^◌, ◌≤◌, ◌<◌, List, [], ◌∷◌, length, Option, Some, None, Bool, true, if◌then◌else◌, nat_eq, nat_lt, nat_le, ◌&&◌, slice_index}
 use Rattle.rv_form.specs.Image.{Access, flag_of}
 use Rattle.rv_form.specs.Machine.{load}
 use Rattle.rv_emulator.specs.declared.region.Region.{Region}

@@ -1,5 +1,5 @@
 -- What passes between a run and a console, and what an environment says of it.
-use Rattle.std.specs.Prelude.{ℕ, ◌≡◌, List, [], ◌∷◌, ◌++◌, Option, Some, None, Bool, true, false}
+use Rattle.std.specs.Prelude.{ℕ, ◌≡◌, List, [], ◌∷◌, Option}
 use Rattle.scheme_base.specs.declared.env.Env.{Env}
 use Rattle.scheme_base.specs.Outside.{Event, ReadByte, ReadEnd, ReadFailed, Wrote, WriteFailed, Calls, next_fails, next_error_fails, read_event, write_event, after_read, after_write, after_send}
 use Rattle.stalin_outside.specs.declared.console.In.{In}

@@ -3,6 +3,7 @@
 
 mod exec;
 mod loading;
+mod machine;
 mod memory;
 mod next;
 mod operation;
@@ -11,3 +12,6 @@ mod registers;
 mod step;
 mod system;
 mod trap;
+
+pub use machine::{Machine, load};
+pub use next::RunEnd;

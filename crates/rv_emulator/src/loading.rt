@@ -6,7 +6,7 @@ ghost use Rattle.rv_emulator.specs.Memory.{Laid, flags_in, has_flag};
 ghost use Rattle.rv_emulator.specs.Loading.{IsLoadable, bytes_in, region_of};
 ghost use Rattle.rv_emulator.specs.States.{IsCached, StandsAt};
 
-use crate::memory::{fetch, may, Fetched};
+use crate::memory::{Fetched, fetch, may};
 use crate::region::{Region, WRITES};
 use rv_form::{Instr, Segment};
 use std::alloc::{AllocError, Global};
@@ -63,14 +63,19 @@ fn push_bytes(bytes: &mut Vec<u8>, segment: &Segment) -> Result<(), AllocError>
 }
 
 /// Reads the code of the region that has the entry, as far as it is to be read once.
-pub fn read_code(alloc: Global, memory: &Memory, entry: u64) -> Result<Code, AllocError>
-    requires { Laid memory.now.regions.items memory.now.bytes.items }
-    ensures { IfOk result (λ code. IsCached memory.now.regions.items memory.now.bytes.items code.base code.words.items) }
+pub fn read_code(
+    alloc: Global,
+    regions: &[Region],
+    bytes: &[u8],
+    entry: u64,
+) -> Result<Code, AllocError>
+    requires { Laid regions.now bytes.now }
+    ensures { IfOk result (λ code. IsCached regions.now bytes.now code.base code.words.items) }
 {
-    let (base, count) = code_place(&memory.regions, entry);
+    let (base, count) = code_place(regions, entry);
     let mut words = Vec::new(alloc);
     for at in 0..count {
-        words.push(lasting(&memory.regions, &memory.bytes, base + 4 * at))?;
+        words.push(lasting(regions, bytes, base + 4 * at))?;
     }
     Ok(Code { base, words })
 }
@@ -80,7 +85,10 @@ fn code_place(regions: &[Region], entry: u64) -> (u64, u64)
     ensures { (result.0 ≤ 2 ^ 63) × (result.1 ≤ 2 ^ 32) }
 {
     for region in regions {
-        if region.start <= entry && entry - region.start < region.size && region.start < 0x8000_0000_0000 {
+        if region.start <= entry
+            && entry - region.start < region.size
+            && region.start < 0x8000_0000_0000
+        {
             return (region.start, (region.size / 4).min(MOST));
         }
     }

@@ -7,7 +7,7 @@ ghost use Rattle.rv_form.specs.Machine.{fetch as fetched_in, load as load_in, st
 ghost use Rattle.rv_emulator.specs.Memory.{AreLow, Laid, all_flagged, bytes_of, loaded_by, memory_of, total_of};
 ghost use Rattle.rv_emulator.specs.States.{Kept, fetched_as, no_env, world_with};
 
-use crate::region::{find, is_set, Place, Region, Width, EXECUTES, WRITES};
+use crate::region::{EXECUTES, Place, Region, WRITES, Width, find, is_set};
 use rv_encode::{decode, decoded_is_encoded};
 use rv_form::Instr;
 

@@ -1,4 +1,6 @@
 //! What an instruction comes to, and what ends a run.
+ghost use Rattle.std.specs.Prelude.{◌≡◌};
+ghost use Rattle.rv_emulator.specs.Held.{answer_in};
 
 /// What an instruction comes to.
 #[derive(Clone, Copy, Debug, PartialEq, Eq)]
@@ -18,4 +20,28 @@ pub enum End {
     Exited { status: u8 },
     /// It has no step from `pc` on.
     Trapped { kind: u8, pc: u64 },
+}
+
+/// What a run of a machine comes to.
+#[derive(Clone, Copy, Debug, PartialEq, Eq)]
+pub enum RunEnd {
+    /// It has exited with this status.
+    Ended { status: u8 },
+    /// It has done so many steps, and can do another.
+    Spent { steps: u64 },
+    /// It has no step from `pc` on, for a reason of this number: 1 no such word, 2 no such place of an
+    /// instruction, 3 a load from a place that may not be read, 4 a store to one that may not be
+    /// written, 5 another system call number, 6 a breakpoint.
+    Trapped { kind: u8, pc: u64 },
+}
+
+/// What a machine answers that has used up so many steps, or has stopped.
+pub fn answer(end: Option<End>, steps: u64) -> RunEnd
+    ensures { result ≡ answer_in steps end }
+{
+    match end {
+        None => RunEnd::Spent { steps },
+        Some(End::Exited { status }) => RunEnd::Ended { status },
+        Some(End::Trapped { kind, pc }) => RunEnd::Trapped { kind, pc },
+    }
 }

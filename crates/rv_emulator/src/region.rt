@@ -4,7 +4,9 @@ ghost use Rattle.rv_emulator.specs.Memory.{AreLow, IsPlaceOf, bytes_of, has_flag
 
 /// The flags of a segment: which uses of its bytes it allows.
 pub const EXECUTES: u32 = 1;
+
 pub const WRITES: u32 = 2;
+
 pub const READS: u32 = 4;
 
 /// A stretch of memory, as a segment loads it.

@@ -21,7 +21,11 @@ impl Registers {
         requires { r < 32 }
         ensures { result ≡ if nat_eq r 0 then 0 else regs_of self.now r }
     {
-        if r == 0 { 0 } else { self.words[usize::from(r)] }
+        if r == 0 {
+            0
+        } else {
+            self.words[usize::from(r)]
+        }
     }
 
     #[inline]

@@ -11,7 +11,7 @@ ghost use Rattle.rv_emulator.specs.Passing.{Plays, told};
 ghost use Rattle.rv_emulator.specs.States.{IsCached, Kept, fetched_as, no_env, state_of, turned, world_with};
 
 use crate::exec::exec;
-use crate::memory::{fetch, Fetched};
+use crate::memory::{Fetched, fetch};
 use crate::next::{End, Next};
 use crate::region::Region;
 use crate::registers::Registers;
@@ -21,7 +21,7 @@ use stalin_outside::Console;
 
 /// Does so many steps from `pc` on, and tells the place of the next instruction, or how the run has ended.
 #[inline(never)]
-pub fn steps<C: Console>(
+pub fn do_steps<C: Console>(
     count: u64,
     base: u64,
     words: &[Option<Instr>],
@@ -35,12 +35,12 @@ pub fn steps<C: Console>(
     requires cached { IsCached regions.now bytes.old base words.now }
     ensures plays { Plays
         (λ env calls. after (machine_in (world_with regions.now env)) count
-            (Running (state_of pc registers.old regions.now bytes.old calls)))
+        (Running (state_of pc registers.old regions.now bytes.old calls)))
         (turned result registers.new regions.now bytes.new)
         (told (C.input console.old) (C.output console.old) (C.errors console.old) (C.answers console.old)
-            (C.err_answers console.old) (C.faults console.old) (C.err_faults console.old))
+        (C.err_answers console.old) (C.faults console.old) (C.err_faults console.old))
         (told (C.input console.new) (C.output console.new) (C.errors console.new) (C.answers console.new)
-            (C.err_answers console.new) (C.faults console.new) (C.err_faults console.new)) }
+        (C.err_answers console.new) (C.faults console.new) (C.err_faults console.new)) }
     ensures laid { Laid regions.now bytes.new }
     ensures cached { IsCached regions.now bytes.new base words.now }
 {
@@ -69,12 +69,12 @@ fn step<C: Console>(
     requires cached { IsCached regions.now bytes.old base words.now }
     ensures plays { Plays
         (λ env calls. step_in (world_with regions.now env)
-            (Running (state_of pc registers.old regions.now bytes.old calls)))
+        (Running (state_of pc registers.old regions.now bytes.old calls)))
         (turned result registers.new regions.now bytes.new)
         (told (C.input console.old) (C.output console.old) (C.errors console.old) (C.answers console.old)
-            (C.err_answers console.old) (C.faults console.old) (C.err_faults console.old))
+        (C.err_answers console.old) (C.faults console.old) (C.err_faults console.old))
         (told (C.input console.new) (C.output console.new) (C.errors console.new) (C.answers console.new)
-            (C.err_answers console.new) (C.faults console.new) (C.err_faults console.new)) }
+        (C.err_answers console.new) (C.faults console.new) (C.err_faults console.new)) }
     ensures laid { Laid regions.now bytes.new }
     ensures cached { IsCached regions.now bytes.new base words.now }
 {
@@ -91,7 +91,13 @@ fn step<C: Console>(
 
 /// The instruction at a place: one of those that were read once, from `base` on, or read now.
 #[inline]
-pub fn instruction_at(base: u64, words: &[Option<Instr>], pc: u64, regions: &[Region], bytes: &[u8]) -> Fetched
+pub fn instruction_at(
+    base: u64,
+    words: &[Option<Instr>],
+    pc: u64,
+    regions: &[Region],
+    bytes: &[u8],
+) -> Fetched
     requires laid { Laid regions.now bytes.now }
     requires cached { IsCached regions.now bytes.now base words.now }
     ensures value { fetched_in (world_with regions.now no_env) (memory_of regions.now bytes.now) pc ≡ fetched_as result }

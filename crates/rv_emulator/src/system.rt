@@ -11,13 +11,16 @@ ghost use Rattle.rv_emulator.specs.States.{Kept, ask_as, reads, regs_of, state_o
 use crate::memory::{load, store};
 use crate::next::End;
 use crate::operation::word;
-use crate::region::{find, is_set, Place, Region, Width, READS, WRITES};
+use crate::region::{Place, READS, Region, WRITES, Width, find, is_set};
 use crate::registers::Registers;
 use stalin_outside::{Console, In, Out};
 
 const CHANNEL: u8 = 10;
+
 const BUFFER: u8 = 11;
+
 const LENGTH: u8 = 12;
+
 const NUMBER: u8 = 17;
 
 /// What a system call comes to.
@@ -49,13 +52,13 @@ pub fn system<C: Console>(
     requires place { pc < 2 ^ 47 }
     ensures plays { Plays
         (λ env calls. does_system (world_with regions.now env)
-            (asked_in (world_with regions.now env) (state_of pc registers.old regions.now bytes.old calls))
-            (state_of pc registers.old regions.now bytes.old calls))
+        (asked_in (world_with regions.now env) (state_of pc registers.old regions.now bytes.old calls))
+        (state_of pc registers.old regions.now bytes.old calls))
         (turned result registers.new regions.now bytes.new)
         (told (C.input console.old) (C.output console.old) (C.errors console.old) (C.answers console.old)
-            (C.err_answers console.old) (C.faults console.old) (C.err_faults console.old))
+        (C.err_answers console.old) (C.faults console.old) (C.err_faults console.old))
         (told (C.input console.new) (C.output console.new) (C.errors console.new) (C.answers console.new)
-            (C.err_answers console.new) (C.faults console.new) (C.err_faults console.new)) }
+        (C.err_answers console.new) (C.faults console.new) (C.err_faults console.new)) }
     ensures laid { Laid regions.now bytes.new }
     ensures kept { Kept regions.now bytes.old bytes.new }
 {
@@ -137,9 +140,9 @@ fn read_byte<C: Console>(a: u64, regions: &[Region], bytes: &mut [u8], console: 
     requires usable { has_flag (flags_in regions.now a) 2 ≡ true }
     ensures call { IsRead result
         (told (C.input console.old) (C.output console.old) (C.errors console.old) (C.answers console.old)
-            (C.err_answers console.old) (C.faults console.old) (C.err_faults console.old))
+        (C.err_answers console.old) (C.faults console.old) (C.err_faults console.old))
         (told (C.input console.new) (C.output console.new) (C.errors console.new) (C.answers console.new)
-            (C.err_answers console.new) (C.faults console.new) (C.err_faults console.new)) }
+        (C.err_answers console.new) (C.faults console.new) (C.err_faults console.new)) }
     ensures memory { memory_of regions.now bytes.new ≡ received (read_event_of result) a (memory_of regions.now bytes.old) }
     ensures laid { Laid regions.now bytes.new }
     ensures kept { Kept regions.now bytes.old bytes.new }
@@ -155,9 +158,9 @@ fn read_byte<C: Console>(a: u64, regions: &[Region], bytes: &mut [u8], console: 
 fn write_byte<C: Console>(byte: u8, console: &mut C) -> Out
     ensures { IsWrite byte result
         (told (C.input console.old) (C.output console.old) (C.errors console.old) (C.answers console.old)
-            (C.err_answers console.old) (C.faults console.old) (C.err_faults console.old))
+        (C.err_answers console.old) (C.faults console.old) (C.err_faults console.old))
         (told (C.input console.new) (C.output console.new) (C.errors console.new) (C.answers console.new)
-            (C.err_answers console.new) (C.faults console.new) (C.err_faults console.new)) }
+        (C.err_answers console.new) (C.faults console.new) (C.err_faults console.new)) }
 {
     console.out(byte)
 }
@@ -166,9 +169,9 @@ fn write_byte<C: Console>(byte: u8, console: &mut C) -> Out
 fn send_byte<C: Console>(byte: u8, console: &mut C) -> Out
     ensures { IsSend byte result
         (told (C.input console.old) (C.output console.old) (C.errors console.old) (C.answers console.old)
-            (C.err_answers console.old) (C.faults console.old) (C.err_faults console.old))
+        (C.err_answers console.old) (C.faults console.old) (C.err_faults console.old))
         (told (C.input console.new) (C.output console.new) (C.errors console.new) (C.answers console.new)
-            (C.err_answers console.new) (C.faults console.new) (C.err_faults console.new)) }
+        (C.err_answers console.new) (C.faults console.new) (C.err_faults console.new)) }
 {
     console.err(byte)
 }

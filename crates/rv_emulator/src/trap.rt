@@ -1,23 +1,73 @@
 //! Whether the next step is none: what a machine that has used up its steps looks at.
-ghost use Rattle.std.specs.Prelude.{◌≡◌, ◌<◌, ◌^◌, ℕ, true, Some, None, if◌then◌else◌};
+ghost use Rattle.std.specs.Prelude.{◌≡◌, ◌<◌, ◌^◌, ℕ, true, Some, None, if◌then◌else◌, length};
 ghost use Rattle.scheme_base.specs.declared.env.Env.{Env};
 ghost use Rattle.scheme_base.specs.Outside.{Calls};
 ghost use Rattle.rv_form.specs.Instruction.{IsValid};
 ghost use Rattle.rv_form.specs.Numbers.{add as sum_of, word as word_of};
-ghost use Rattle.rv_form.specs.Machine.{Running, act, step as step_in};
+ghost use Rattle.rv_form.specs.Machine.{Running, act, machine_in, step as step_in};
 ghost use Rattle.rv_emulator.specs.Memory.{Laid, all_flagged, bytes_of};
+ghost use Rattle.scheme_base.specs.Runs.{after};
+ghost use Rattle.rv_emulator.specs.Held.{run_in, settled};
+ghost use Rattle.rv_emulator.specs.Passing.{Plays, told};
 ghost use Rattle.rv_emulator.specs.States.{IsCached, reads, state_of, trap_of, world_with};
 
-use crate::memory::{may, Fetched};
+use crate::memory::{Fetched, may};
+use crate::next::End;
 use crate::operation::{add, word};
-use crate::region::{Region, Width, READS, WRITES};
+use crate::region::{READS, Region, WRITES, Width};
 use crate::registers::Registers;
-use crate::step::instruction_at;
-use crate::system::{asked, Ask};
+use crate::step::{do_steps, instruction_at};
+use crate::system::{Ask, asked};
 use rv_form::Instr;
+use stalin_outside::Console;
+
+/// How far a machine has come: the place of its next instruction, and how it has stopped.
+#[derive(Clone, Copy, Debug, PartialEq, Eq)]
+pub struct Gone {
+    pub pc: u64,
+    pub end: Option<End>,
+}
+
+/// Does so many steps from `pc` on, and stops also where the next one would be a trap.
+pub fn go_on<C: Console>(
+    steps: u64,
+    base: u64,
+    words: &[Option<Instr>],
+    pc: u64,
+    registers: &mut Registers,
+    regions: &[Region],
+    bytes: &mut [u8],
+    console: &mut C,
+) -> Gone
+    requires laid { Laid regions.now bytes.old }
+    requires cached { IsCached regions.now bytes.old base words.now }
+    ensures plays { Plays
+        (λ env calls. settled (world_with regions.now env)
+        (after (machine_in (world_with regions.now env)) steps
+        (Running (state_of pc registers.old regions.now bytes.old calls))))
+        (λ calls. run_in result.end (state_of result.pc registers.new regions.now bytes.new calls))
+        (told (C.input console.old) (C.output console.old) (C.errors console.old) (C.answers console.old)
+        (C.err_answers console.old) (C.faults console.old) (C.err_faults console.old))
+        (told (C.input console.new) (C.output console.new) (C.errors console.new) (C.answers console.new)
+        (C.err_answers console.new) (C.faults console.new) (C.err_faults console.new)) }
+    ensures laid { Laid regions.now bytes.new }
+    ensures size { length bytes.new ≡ length bytes.old }
+    ensures cached { IsCached regions.now bytes.new base words.now }
+{
+    match do_steps(steps, base, words, pc, registers, regions, bytes, console) {
+        Err(end) => Gone { pc, end: Some(end) },
+        Ok(to) => match trap_at(base, words, to, registers, regions, bytes) {
+            None => Gone { pc: to, end: None },
+            Some(kind) => Gone {
+                pc: to,
+                end: Some(End::Trapped { kind, pc: to }),
+            },
+        },
+    }
+}
 
 /// The kind of trap that stands at `pc`, if any.
-pub fn trap_at(
+fn trap_at(
     base: u64,
     words: &[Option<Instr>],
     pc: u64,
@@ -37,7 +87,12 @@ pub fn trap_at(
 }
 
 /// The kind of trap that an instruction comes to, if any.
-fn instruction_trap(instr: Instr, registers: &Registers, regions: &[Region], bytes: &[u8]) -> Option<u8>
+fn instruction_trap(
+    instr: Instr,
+    registers: &Registers,
+    regions: &[Region],
+    bytes: &[u8],
+) -> Option<u8>
     requires valid { IsValid instr }
     requires laid { Laid regions.now bytes.now }
     ensures { (pc : ℕ) (env : Env) (calls : Calls) → trap_of (act (world_with regions.now env) instr (state_of pc registers.now regions.now bytes.now calls)) ≡ result }
@@ -53,7 +108,14 @@ fn instruction_trap(instr: Instr, registers: &Registers, regions: &[Region], byt
         Instr::Sb { rs1, imm, .. } => store_trap(Width::Byte, rs1, imm, registers, regions, bytes),
         Instr::Sh { rs1, imm, .. } => store_trap(Width::Half, rs1, imm, registers, regions, bytes),
         Instr::Sw { rs1, imm, .. } => store_trap(Width::Word, rs1, imm, registers, regions, bytes),
-        Instr::Sd { rs1, imm, .. } => store_trap(Width::Double, rs1, imm, registers, regions, bytes),
+        Instr::Sd { rs1, imm, .. } => store_trap(
+            Width::Double,
+            rs1,
+            imm,
+            registers,
+            regions,
+            bytes,
+        ),
         Instr::Ecall => call_trap(registers, regions, bytes),
         Instr::Ebreak => Some(6),
         _ => None,
@@ -74,7 +136,12 @@ fn load_trap(
     ensures { result ≡ if all_flagged regions.now 4 (bytes_of width) (sum_of (reads registers.now rs1) (word_of imm)) then None else Some 3 }
 {
     let _ = bytes;
-    if may(regions, READS, width.count(), add(registers.read(rs1), word(imm))) {
+    if may(
+        regions,
+        READS,
+        width.count(),
+        add(registers.read(rs1), word(imm)),
+    ) {
         None
     } else {
         Some(3)
@@ -95,7 +162,12 @@ fn store_trap(
     ensures { result ≡ if all_flagged regions.now 2 (bytes_of width) (sum_of (reads registers.now rs1) (word_of imm)) then None else Some 4 }
 {
     let _ = bytes;
-    if may(regions, WRITES, width.count(), add(registers.read(rs1), word(imm))) {
+    if may(
+        regions,
+        WRITES,
+        width.count(),
+        add(registers.read(rs1), word(imm)),
+    ) {
         None
     } else {
         Some(4)

@@ -1,4 +1,4 @@
-use Rattle.std.proofs.Common.{ap, ◌∙◌, ◌/◌, ◌+◌, ◌-◌, arith, rules}
+use Rattle.std.proofs.Common.{ap, ◌∙◌, ◌/◌, ◌+◌, ◌-◌, arith}
 use Rattle.rv_form.specs.Machine.{store}
 use Rattle.rv_emulator.specs.Memory.{memory_of}
 use Rattle.rv_emulator.proofs.Places.{first_place, low_place, whole_fits}

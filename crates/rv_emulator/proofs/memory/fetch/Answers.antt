@@ -1,5 +1,4 @@
-use Rattle.std.proofs.Common.{◌≡◌, ◌<◌, ◌^◌, ap, sym, subst, arith}
-use Rattle.rv_form.specs.declared.instr.Instr.{Instr}
+use Rattle.std.proofs.Common.{◌≡◌, subst, arith}
 use Rattle.rv_form.specs.Instruction.{IsValid}
 use Rattle.rv_emulator.proofs.Fetching.{loaded_low}
 use Rattle.rv_emulator.proofs.memory.fetch.Goals as goal

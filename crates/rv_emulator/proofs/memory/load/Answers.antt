@@ -1,4 +1,4 @@
-use Rattle.std.proofs.Common.{subst, arith}
+use Rattle.std.proofs.Common.{subst}
 use Rattle.rv_emulator.specs.Memory.{IsWhole, bytes_of}
 use Rattle.rv_emulator.proofs.Digits.{some_bytes}
 use Rattle.rv_emulator.proofs.Places.{whole_fits, whole_loaded, whole_refused}

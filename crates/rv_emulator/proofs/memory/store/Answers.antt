@@ -1,4 +1,4 @@
-use Rattle.std.proofs.Common.{subst, sym, ◌≡◌, ◌∙◌, ◌<◌, true, ℕ, arith}
+use Rattle.std.proofs.Common.{subst, sym, ◌≡◌, ◌∙◌, true, ℕ, arith}
 use Rattle.std.specs.Prelude.{slice_index}
 use Rattle.rv_form.specs.Machine.{store}
 use Rattle.rv_emulator.specs.Memory.{IsWhole, bytes_of, has_flag, all_flagged}

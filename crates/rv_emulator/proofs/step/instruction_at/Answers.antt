@@ -1,7 +1,5 @@
-use Rattle.std.proofs.Common.{◌≡◌, ◌-◌, ◌/◌, ◌%◌, ◌≤◌, Some, subst, arith, rules}
-use Rattle.std.specs.Prelude.{slice_get}
+use Rattle.std.proofs.Common.{◌≡◌, subst, rules}
 use Rattle.rv_form.specs.Instruction.{IsValid}
-use Rattle.rv_emulator.specs.States.{StandsAt}
 use Rattle.rv_emulator.proofs.Fetching.{cached_at}
 use Rattle.rv_emulator.proofs.step.instruction_at.Goals as goal
 

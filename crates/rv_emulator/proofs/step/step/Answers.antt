@@ -1,4 +1,4 @@
-use Rattle.std.proofs.Common.{refl, arith}
+use Rattle.std.proofs.Common.{refl}
 use Rattle.rv_emulator.proofs.Fetching.{cached_kept}
 use Rattle.rv_emulator.proofs.step.step.Goals as goal
 

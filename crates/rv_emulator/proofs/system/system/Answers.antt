@@ -1,4 +1,4 @@
-use Rattle.std.proofs.Common.{◌≡◌, ◌+◌, [], ◌∷◌, refl, ap, sym, ◌∙◌, arith}
+use Rattle.std.proofs.Common.{[], ◌∷◌, refl, ap, ◌∙◌}
 use Rattle.std.specs.Prelude.{pos, negsuc}
 use Rattle.rv_form.specs.Machine.{received, system, with_reg}
 use Rattle.rv_emulator.specs.Memory.{memory_of}

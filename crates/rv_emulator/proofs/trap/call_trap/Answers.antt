@@ -1,4 +1,4 @@
-use Rattle.std.proofs.Common.{◌≡◌, ap}
+use Rattle.std.proofs.Common.{ap}
 use Rattle.rv_form.specs.Machine.{system}
 use Rattle.rv_emulator.specs.States.{state_of, trap_of, world_with}
 use Rattle.rv_emulator.proofs.trap.call_trap.Goals as goal

@@ -1,9 +1,9 @@
-use Rattle.std.proofs.Common.{◌≡◌, ◌+◌, ◌-◌, sym, ap, ◌∙◌, arith}
+use Rattle.std.proofs.Common.{◌+◌, ◌-◌}
 use Rattle.scheme_base.specs.Runs.{after}
 use Rattle.rv_form.specs.Machine.{Running, machine_in, step}
-use Rattle.rv_emulator.specs.States.{state_of, turned, world_with}
+use Rattle.rv_emulator.specs.States.{state_of, world_with}
 use Rattle.rv_emulator.proofs.Playing.{plays_then, plays_on, plays_same, after_one_more, after_rest, ended_stays}
-use Rattle.rv_emulator.proofs.step.steps.Goals as goal
+use Rattle.rv_emulator.proofs.step.do_steps.Goals as goal
 
 pub returns-in-Err-clause-plays : goal.returns-in-Err-clause-plays
 returns-in-Err-clause-plays g c =

@@ -1,10 +1,9 @@
-use Rattle.std.proofs.Common.{◌≡◌}
 use Rattle.scheme_base.specs.Runs.{after}
 use Rattle.rv_form.specs.Machine.{Running, machine_in}
 use Rattle.rv_emulator.specs.Memory.{Laid}
 use Rattle.rv_emulator.specs.Passing.{Plays, told}
 use Rattle.rv_emulator.specs.States.{IsCached, state_of, world_with}
-use Rattle.rv_emulator.proofs.step.steps.Given as goal
+use Rattle.rv_emulator.proofs.step.do_steps.Given as goal
 
 abbrev pub invariant-loop-done : goal.invariant-loop-done
 invariant-loop-done g l =
