@@ -15,3 +15,6 @@ mod trap;
 
 pub use machine::{Machine, load};
 pub use next::RunEnd;
+
+#[cfg(test)]
+mod tests;
