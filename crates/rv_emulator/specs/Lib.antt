@@ -3,3 +3,4 @@ pub mod States
 pub mod Passing
 pub mod Loading
 pub mod Held
+pub mod Answered

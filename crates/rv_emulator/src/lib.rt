@@ -2,6 +2,7 @@
 #![tactic(auto)]
 
 mod exec;
+mod laws;
 mod loading;
 mod machine;
 mod memory;
@@ -13,6 +14,7 @@ mod step;
 mod system;
 mod trap;
 
+pub use laws::{answers_are_of_an_environment, console_shows_the_trace};
 pub use machine::{Machine, load};
 pub use next::RunEnd;
 
