@@ -9,7 +9,7 @@ use Rattle.datum_form.specs.Grammar.IsPrefix.{radix_first, exactness_first}
 use Rattle.datum_form.specs.Grammar.IsSign.{unsigned, plus, minus}
 use Rattle.datum_form.specs.Words.{begins_with, digit, digits, digits_after, signed, number, radix_of, after_radix, after_exact}
 
-apart : true ≡ false → ⊥
+pub apart : true ≡ false → ⊥
 apart e = cc
 
 none_some : {A : Type 0} → (x : A) → None ≡ Some x → ⊥
@@ -24,7 +24,7 @@ first_digit r b v bytes h = at (nat_lt (digit b) r) h
     at true e = refl
     at false e = absurd (none_some v e)
 
-same_byte : (k b : ℕ) → nat_eq k b ≡ true → b ≡ k
+pub same_byte : (k b : ℕ) → nat_eq k b ≡ true → b ≡ k
 same_byte k b e = grind arith
 
 -- a byte that counts 16 is no first digit
@@ -127,11 +127,11 @@ number_read word z h =
 
 -- The other way
 
-and_left : (a b : Bool) → (a && b) ≡ true → a ≡ true
+pub and_left : (a b : Bool) → (a && b) ≡ true → a ≡ true
 and_left true b e = refl
 and_left false b e = absurd (apart (sym e))
 
-and_right : (a b : Bool) → (a && b) ≡ true → b ≡ true
+pub and_right : (a b : Bool) → (a && b) ≡ true → b ≡ true
 and_right true b e = e
 and_right false b e = absurd (apart (sym e))
 

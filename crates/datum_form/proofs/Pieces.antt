@@ -17,11 +17,9 @@ use Rattle.datum_form.specs.Text.{Piece, quoted, is_delimiter, run_length, word_
 use Rattle.datum_form.specs.Text.Piece.{Found}
 use Rattle.datum_form.specs.Words.{begins_with, small_word, character_word}
 use Rattle.datum_form.specs.Words.Word.{IsToken as Is, NoWord}
+use Rattle.datum_form.proofs.Numerals.{same_byte}
 use Rattle.datum_form.proofs.Spelling.{word_read}
 use Rattle.datum_form.proofs.Strings.{character_read, string_read}
-
-apart : true ≡ false → ⊥
-apart e = cc
 
 -- Runs
 
@@ -87,9 +85,6 @@ small p text n = word_piece (small_word p (str_to_ascii_lowercase (take n text))
 no_mark : (p : Pos) (b : ℕ) (bytes : List ℕ) → NoMark b bytes → piece p (b ∷ bytes) ≡ small p (b ∷ bytes) (run_length (b ∷ bytes))
 no_mark p b bytes m =
     rw (m.white, m.comment, m.opener, m.vector, m.closer, m.text, m.quoted, m.quasi, m.comma, m.char) refl
-
-same_byte : (k b : ℕ) → nat_eq k b ≡ true → b ≡ k
-same_byte k b e = grind arith
 
 no_token : (t : Token) → NoWord ≡ Is t → ⊥
 no_token t e = cc

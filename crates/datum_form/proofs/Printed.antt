@@ -1,10 +1,11 @@
 -- A datum without parts is printed as a token as R4RS writes it.
-use Rattle.std.proofs.Common.{◌≡◌, ◌≢◌, ℕ, zero, suc, ◌+◌, ◌*◌, ◌/◌, ◌%◌, ◌<◌, ◌≤◌, ◌^◌, Bool, true, false, List, [], ◌∷◌, ◌++◌, Some, None, refl, sym, ap, subst, ◌∙◌, arith, cond}
+use Rattle.std.proofs.Common.{◌≡◌, ℕ, zero, suc, ◌+◌, ◌*◌, ◌/◌, ◌%◌, ◌<◌, ◌≤◌, ◌^◌, Bool, true, false, List, [], ◌∷◌, ◌++◌, Some, None, refl, sym, ap, subst, ◌∙◌, arith, cond}
 use Rattle.std.specs.Prelude.{ℤ, pos, negsuc, nat_lt, codes, ◌==◌, ◌||◌}
 use Rattle.std.specs.Char.{to_ascii_lowercase}
 use Rattle.std.specs.Fmt.{decimal, digits as glyphs, digits_onto, digit_glyph}
 use Rattle.std.specs.Str.{str_to_ascii_lowercase}
 use Rattle.scheme_base.specs.declared.pos.Pos.{Pos}
+use Rattle.datum_form.proofs.Strings.{same_byte, differs}
 use Rattle.datum_form.specs.Grammar.{Delimited, Undelimited, IsNumber, IsWord, IsString, IsToken}
 use Rattle.datum_form.specs.Grammar.IsRadix.{decimal as ten}
 use Rattle.datum_form.specs.Grammar.IsExactness.{unmarked}
@@ -216,12 +217,6 @@ integer_token p (negsuc n) after h d =
     (same_word p (45 ∷ decimal (suc n)) (45 ∷ decimal (suc n)) (negsuc n) (ap (λ l. 45 ∷ l) dec.lower)
     (negative_number n dec) h)
 
-same_byte : (b k : ℕ) → (b == k) ≡ true → b ≡ k
-same_byte b k e = grind arith
-
-other_byte : (b k : ℕ) → (b == k) ≡ false → b ≢ k
-other_byte b k e = grind arith
-
 character_token : (p : Pos) (c : ℕ) (after : List ℕ) → Delimited after
     → IsToken p (character_text c) after (Single p (Character c))
 character_token p c after d = at (c == 32) (c == 10) refl refl
@@ -251,7 +246,7 @@ escaped_is (b ∷ bytes) = at (b == 34) (b == 92) refl refl (escaped_is bytes)
         let P : ℕ → Type 0 = λ k. IsString (92 ∷ k ∷ escaped_text bytes) (k ∷ bytes) in
         subst P (sym (same_byte b 92 hs)) (escaped_backslash (escaped_text bytes) bytes more)
     at false false hq hs more =
-        plain b (escaped_text bytes) bytes (other_byte b 34 hq) (other_byte b 92 hs) more
+        plain b (escaped_text bytes) bytes (differs b 34 hq) (differs b 92 hs) more
 
 name_token : (p : Pos) (bytes after : List ℕ) → ValidAtom (Name bytes) → Delimited after
     → IsToken p bytes after (Single p (Name bytes))

@@ -11,24 +11,13 @@ use Rattle.datum_form.specs.Syntax.Atom.{Integer, Boolean, Name}
 use Rattle.datum_form.specs.Syntax.Token.{Dot, Single}
 use Rattle.datum_form.specs.Words.{digit, is_initial, is_ordinary, all_subsequent, is_name, in_range, number as number_of, name_word, number_or_name, small_word}
 use Rattle.datum_form.specs.Words.Word.{IsToken, OutOfRange, NoWord}
-use Rattle.datum_form.proofs.Numerals.{plain, number_read, number_written}
-
-apart : true ≡ false → ⊥
-apart e = cc
+use Rattle.datum_form.proofs.Numerals.{apart, and_left, and_right, same_byte, plain, number_read, number_written}
 
 -- A test of all numbers below a bound
 
 abbrev below : ℕ → (ℕ → Bool) → Bool
 below zero t = true
 below (suc n) t = t n && below n t
-
-and_left : (a b : Bool) → (a && b) ≡ true → a ≡ true
-and_left true b e = refl
-and_left false b e = absurd (apart (sym e))
-
-and_right : (a b : Bool) → (a && b) ≡ true → b ≡ true
-and_right true b e = e
-and_right false b e = absurd (apart (sym e))
 
 last_or_below : (n k : ℕ) → k < suc n → (k ≡ n) ⊎ (k < n)
 last_or_below n k h = grind arith
@@ -42,9 +31,6 @@ below_at (suc n) t k e h =
     ]
 
 -- Names are no numbers
-
-same_byte : (k b : ℕ) → nat_eq k b ≡ true → b ≡ k
-same_byte k b e = grind arith
 
 no_initial : (k b : ℕ) → is_initial b ≡ true → is_initial k ≡ false → nat_eq k b ≡ false
 no_initial k b h none = at (nat_eq k b) refl

@@ -127,10 +127,10 @@ bad_escape_is (Closed read k) bytes n e = cc
 bad_escape_is BadEscape bytes n e = cc
 bad_escape_is NeverClosed bytes n e = cc
 
-same_byte : (b k : ℕ) → (b == k) ≡ true → b ≡ k
+pub same_byte : (b k : ℕ) → (b == k) ≡ true → b ≡ k
 same_byte b k e = grind arith
 
-differs : (b k : ℕ) → (b == k) ≡ false → b ≢ k
+pub differs : (b k : ℕ) → (b == k) ≡ false → b ≢ k
 differs b k e = grind arith
 
 one_byte : (b n : ℕ) (text bytes : List ℕ) → b ≢ 34 → b ≢ 92 → (w : WithByte b (quoted false text) bytes n)

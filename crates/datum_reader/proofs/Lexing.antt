@@ -15,7 +15,7 @@ use Rattle.datum_form.specs.Words.Word.{IsToken, OutOfRange, NoWord}
 use Rattle.std.specs.Str.{str_to_ascii_lowercase}
 use Rattle.datum_form.specs.Grammar.{place_after}
 use Rattle.datum_reader.specs.Lexing.{token_then, ends}
-use Rattle.datum_reader.proofs.Strings.{length_while-step}
+use Rattle.datum_form.proofs.Pieces.{length_while-step}
 
 -- The bytes of a piece are passed over
 

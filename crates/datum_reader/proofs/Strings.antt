@@ -1,25 +1,13 @@
 -- A string is read run by run: bytes that stand for themselves, and then an escape or the end.
 use Rattle.std.proofs.Common.{◌≡◌, ◌≢◌, ℕ, suc, ◌+◌, Bool, true, false, List, [], ◌∷◌, ◌++◌, length, take, drop, refl, sym, ap, subst, ◌∙◌, append_assoc, append-nil, arith, cond}
 use Rattle.std.specs.Prelude.{not, ◌||◌, ◌==◌}
-use Rattle.std.specs.List.{take_while, prefix_len}
-use Rattle.std.proofs.lemmas.List.Folds.{length-prefix_len}
+use Rattle.std.specs.List.{take_while}
+use Rattle.datum_form.proofs.Pieces.{length_while-step, length_while-none}
 use Rattle.datum_form.specs.Text.{Quoted, quoted, with_byte, with_bad_escape, after_backslash}
 use Rattle.datum_form.specs.Text.Quoted.{Closed, BadEscape, NeverClosed}
 use Rattle.datum_reader.specs.Strings.{is_escaped, is_plain, ended, given}
 
 -- Runs
-
-pub length_while-step : (p : ℕ → Bool) (b : ℕ) (bytes : List ℕ) → p b ≡ true
-    → length (take_while p (b ∷ bytes)) ≡ suc (length (take_while p bytes))
-length_while-step p b bytes h =
-    let one : prefix_len p (b ∷ bytes) ≡ 1 + prefix_len p bytes = rw h refl in
-    omega (arith, length-prefix_len p (b ∷ bytes), length-prefix_len p bytes, one)
-
-pub length_while-none : (p : ℕ → Bool) (b : ℕ) (bytes : List ℕ) → p b ≡ false
-    → length (take_while p (b ∷ bytes)) ≡ 0
-length_while-none p b bytes h =
-    let none : prefix_len p (b ∷ bytes) ≡ 0 = rw h refl in
-    omega (arith, length-prefix_len p (b ∷ bytes), none)
 
 -- how many bytes stand before the first `"` or `\`
 abbrev pub plain_length : List ℕ → ℕ

@@ -21,7 +21,7 @@ use Rattle.datum_form.proofs.Pieces.{token_found}
 use Rattle.datum_form.proofs.Found.{front_token}
 use Rattle.datum_reader.specs.Lexing.{token_then, ends}
 use Rattle.datum_reader.proofs.Lexing.{piece_length_some, after_blank, at_token, at_bad_token, at_bad_number, at_open_text}
-use Rattle.datum_reader.proofs.Strings.{length_while-step, length_while-none}
+use Rattle.datum_form.proofs.Pieces.{length_while-step, length_while-none}
 
 abbrev clean : List Token → Lexed
 clean ts = record { tokens = ts; ending = Clean }
