@@ -1,4 +1,5 @@
 pub mod Again
+pub mod Breaks
 pub mod Builds
 pub mod Ends
 pub mod Good

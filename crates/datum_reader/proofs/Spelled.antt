@@ -50,7 +50,7 @@ abbrev mutual
 
 -- Places
 
-place_after-append : (p : Pos) (xs ys : List ℕ) → place_after p (xs ++ ys) ≡ place_after (place_after p xs) ys
+pub place_after-append : (p : Pos) (xs ys : List ℕ) → place_after p (xs ++ ys) ≡ place_after (place_after p xs) ys
 place_after-append p [] ys = refl
 place_after-append p (b ∷ xs) ys = place_after-append (after_byte p b) xs ys
 

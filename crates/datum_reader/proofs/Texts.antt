@@ -42,12 +42,12 @@ line_length-append (b ∷ line) after one end =
     ∙ ap (λ n. suc n) (line_length-append line after one.1 end)
 
 -- the bytes up to the line's end
-record Line (text : List ℕ) : Type 0 where
-  line : List ℕ
-  after : List ℕ
-  whole : text ≡ line ++ after
-  one : IsOneLine line
-  end : AtLineEnd after
+pub record Line (text : List ℕ) : Type 0 where
+  pub line : List ℕ
+  pub after : List ℕ
+  pub whole : text ≡ line ++ after
+  pub one : IsOneLine line
+  pub end : AtLineEnd after
 
 is_end : (b : ℕ) → is_line_end b ≡ true → b ≡ 10
 is_end b h = grind arith
@@ -55,7 +55,7 @@ is_end b h = grind arith
 is_no_end : (b : ℕ) → is_line_end b ≡ false → b ≢ 10
 is_no_end b h = grind arith
 
-line_of : (text : List ℕ) → Line text
+pub line_of : (text : List ℕ) → Line text
 line_of [] = record { line = []; after = []; whole = refl; one = tt; end = tt }
 line_of (b ∷ bytes) = at (is_line_end b) refl (line_of bytes)
   where
@@ -71,7 +71,7 @@ line_of (b ∷ bytes) = at (is_line_end b) refl (line_of bytes)
         }
 
 -- after a comment
-past_comment : (p : Pos) (line after : List ℕ) → IsOneLine line → AtLineEnd after
+pub past_comment : (p : Pos) (line after : List ℕ) → IsOneLine line → AtLineEnd after
     → lexed_after 0 p (59 ∷ (line ++ after)) ≡ lexed_after 0 (place_after p (59 ∷ line)) after
 past_comment p line after one end =
     let start : List ℕ = 59 ∷ line in
@@ -82,7 +82,7 @@ past_comment p line after one end =
     ∙ (ap (λ l. lexed_after 0 (place_after p l) (drop (length start) text)) (take-append_seam start after)
     ∙ ap (lexed_after 0 (place_after p start)) (drop-append_seam start after))
 
-past_white : (p : Pos) (b : ℕ) (bytes : List ℕ) → is_ascii_whitespace b ≡ true
+pub past_white : (p : Pos) (b : ℕ) (bytes : List ℕ) → is_ascii_whitespace b ≡ true
     → lexed_after 0 p (b ∷ bytes) ≡ lexed_after 0 (after_byte p b) bytes
 past_white p b bytes h =
     let is : piece p (b ∷ bytes) ≡ Blank 1 = rw h refl in
@@ -92,7 +92,7 @@ some_text : (p : Pos) (text : List ℕ) (t : Token) (n : ℕ) → piece p text �
 some_text p [] t n e = absurd (cc)
 some_text p (b ∷ bytes) t n e = omega arith
 
-past_token : (p : Pos) (word after : List ℕ) (t : Token) → piece p (word ++ after) ≡ Found t (length word)
+pub past_token : (p : Pos) (word after : List ℕ) (t : Token) → piece p (word ++ after) ≡ Found t (length word)
     → lexed_after 0 p (word ++ after) ≡ token_then t (lexed_after 0 (place_after p word) after)
 past_token p word after t e =
     let text : List ℕ = word ++ after in
@@ -111,7 +111,7 @@ tokens_lexed p text ts (token q word rest t us h more) =
 
 -- The other way
 
-abbrev NoBlank : Piece → Type 0
+abbrev pub NoBlank : Piece → Type 0
 NoBlank (Blank n) = ⊥
 NoBlank (Found t n) = Unit {0}
 NoBlank BadToken = Unit {0}
@@ -149,7 +149,7 @@ mark_no_blank p text =
     (either (begins_with text (codes ",@")) (Found (Marking p Splice) 2) unquote tt
     (either (begins_with text (codes ",")) (Found (Marking p Unquote) 1) (run_piece p text) tt (run_no_blank p text))))
 
-token_no_blank : (p : Pos) (text : List ℕ) → NoBlank (token_piece p text)
+pub token_no_blank : (p : Pos) (text : List ℕ) → NoBlank (token_piece p text)
 token_no_blank p text =
     let string : Piece =
     cond (begins_with text (codes "\"")) (string_piece p (quoted false (drop 1 text))) (mark_piece p text) in
@@ -230,7 +230,7 @@ comment_shown k b p bytes ts few mark e more =
     (more (place_after p (59 ∷ l.line)) l.after ts less
     (sym (past_comment p l.line l.after l.one l.end) ∙ (sym (ap (lexed_after 0 p) whole) ∙ e))))
 
-first_byte : (b : ℕ) (bytes : List ℕ) → begins_with (b ∷ bytes) (codes ";") ≡ true → b ≡ 59
+pub first_byte : (b : ℕ) (bytes : List ℕ) → begins_with (b ∷ bytes) (codes ";") ≡ true → b ≡ 59
 first_byte b bytes e = ap head (begins_one (b ∷ bytes) 59 e)
   where
     head : List ℕ → ℕ

@@ -2,14 +2,14 @@
 --
 -- A text has at most 2^20 bytes, and its data are nested at most 1,000 deep. Its fault is at the first token
 -- after which no such text goes on, or at what is still open at its end.
-use Rattle.std.specs.Prelude.{◌≡◌, ℕ, ◌<◌, ◌≤◌, List, length, ◌⊎◌, Result, Ok, Err}
+use Rattle.std.specs.Prelude.{◌≡◌, ℕ, ◌<◌, ◌≤◌, List, length, ◌++◌, Option, Some, None, ◌⊎◌, Result, Ok, Err}
 use Rattle.scheme_base.specs.declared.pos.Pos.{Pos}
 use Rattle.datum_form.specs.Syntax.{Token, Syntax, IsText, Begins}
 use Rattle.datum_form.specs.Data.{Items, data_of, unplaced_all}
 use Rattle.datum_form.specs.Print.{lines_of}
 use Rattle.datum_form.specs.Stands.{Holds}
 use Rattle.datum_form.specs.declared.datums.Datums.{Datums}
-use Rattle.datum_form.specs.Grammar.{IsSpelled}
+use Rattle.datum_form.specs.Grammar.{IsSpelled, IsToken, place_after}
 use Rattle.datum_form.specs.Faults.{Strays, Deepens, Unclosed as UnclosedTokens}
 use Rattle.datum_form.specs.Text.{Ending, Lexed, lexed}
 use Rattle.datum_form.specs.Text.Ending.{Clean, BadAt, RangeAt, OpenAt}
@@ -41,6 +41,22 @@ pub record ReadsAgain (data_printed : Items) : Type 0 where
   pub trees : List Syntax
   pub is_text : IsText max_depth tokens trees
   pub same : unplaced_all (data_of trees) ≡ unplaced_all data_printed
+
+-- where a text that does not come to its end stops
+abbrev pub stop_of : Ending → Option Pos
+stop_of Clean = None
+stop_of (BadAt p) = Some p
+stop_of (RangeAt p) = Some p
+stop_of (OpenAt p) = Some p
+
+-- no token of the grammar begins at this place of a text that begins at that one
+pub record NoToken (start : Pos) (text : List ℕ) (p : Pos) : Type 0 where
+  pub front : List ℕ
+  pub rest : List ℕ
+  pub whole : text ≡ front ++ rest
+  pub some : 0 < length rest
+  pub place : p ≡ place_after start front
+  pub none : (word after : List ℕ) (t : Token) → rest ≡ word ++ after → IsToken p word after t → ⊥
 
 -- the tokens of a text begin a text, and then comes what is no token
 pub record Breaks (lex : Lexed) (ending : Ending) : Type 0 where

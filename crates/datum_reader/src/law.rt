@@ -1,4 +1,5 @@
-ghost use Rattle.std.specs.Prelude.{◌≡◌, ◌↔◌, ℕ, List, ◌⊎◌};
+ghost use Rattle.std.specs.Prelude.{◌≡◌, ◌↔◌, ℕ, List, Some, ◌⊎◌};
+ghost use Rattle.scheme_base.specs.declared.pos.Pos.{Pos};
 ghost use Rattle.datum_form.specs.Syntax.{Token, Syntax, IsText};
 ghost use Rattle.datum_form.specs.Faults.{Fault, HasFault};
 ghost use Rattle.datum_form.specs.Data.{Items};
@@ -6,7 +7,7 @@ ghost use Rattle.datum_form.specs.Grammar.{IsSpelled};
 ghost use Rattle.datum_form.specs.Text.{lexed};
 ghost use Rattle.datum_form.specs.Text.Ending.{Clean};
 ghost use Rattle.datum_reader.specs.declared.error.ReadErr.{ReadErr};
-ghost use Rattle.datum_reader.specs.Answer.{Reads, ReadFault, ReadsAgain};
+ghost use Rattle.datum_reader.specs.Answer.{Reads, ReadFault, ReadsAgain, NoToken, stop_of};
 
 /// The law that a list of tokens is a text of one list of trees, or else has one fault at one place,
 /// whatever depth of nesting is allowed.
@@ -35,4 +36,9 @@ pub fn same_texts()
 /// Together with `write_text`, which prints this text, it says that nothing is lost by printing.
 pub fn printed_data()
     ensures { (text : List ℕ) (is : Items) → Reads text is → ReadsAgain is }
+{}
+
+/// The law that where the tokens of a text stop before its end, no token of the grammar begins.
+pub fn no_token()
+    ensures { (text : List ℕ) (p : Pos) → stop_of (lexed text).ending ≡ Some p → NoToken (record { line = 1; col = 1 }) text p }
 {}
