@@ -14,12 +14,12 @@ use Rattle.scheme_base.specs.declared.lit.Lit.TheVariants as lit
 use Rattle.scheme_base.specs.declared.op.Op.TheVariants as op
 use Rattle.scheme_base.specs.declared.pos.Pos.{Pos}
 use Rattle.scheme_base.specs.declared.error.ErrKind.TheVariants.{WrongType, Index, Unbound, NotProcedure, Count, Overflow, ZeroDivisor, Undefined}
-use Rattle.scheme_base.specs.Outside.{ReadByte, ReadEnd, ReadFailed, Wrote}
+use Rattle.scheme_base.specs.Outside.{Event, ReadByte, ReadEnd, ReadFailed, Wrote}
 use Rattle.scheme_base.specs.Runs.{after}
 use Rattle.scheme_base.specs.Stops.{Stop, End, Error, IoStop}
 use Rattle.core_form.specs.declared.program.Var.{Var}
-use Rattle.core_form.specs.Trees.{Tree, Const, Ref, Lambda, If, Set, Call, Prim, Seq, Fix, Define, Trees, none, item}
-use Rattle.core_form.specs.Source.{State, Evaluates, Gives, Stopped, machine, start, trace_of, output}
+use Rattle.core_form.specs.Trees.{Const, Ref, Lambda, If, Set, Call, Prim, Seq, Fix, Define, Trees, none, item}
+use Rattle.core_form.specs.Source.{State, Stopped, machine, start, trace_of, output}
 use Rattle.core_form.specs.Variables.{named}
 
 abbrev at : ℕ → ℕ → Pos
@@ -273,3 +273,16 @@ end_is_not_kept_forms =
 
 end_is_not_kept : seen end_is_not_kept_forms (lit.Unspecified ∷ []) end_then_x 20 ≡ stops (codes "x") End
 end_is_not_kept = refl
+
+-- calls with their answers, the newest first
+abbrev calls : Trees Var → List Lit → Env → ℕ → List Event
+calls forms lits env steps = trace_of (after (machine (named forms lits) env) steps (start (named forms lits) env))
+
+copy_calls : calls copy_forms [] one_x 10 ≡ Wrote 120 ∷ ReadByte 120 ∷ []
+copy_calls = refl
+
+read_fails_calls : calls read_fails_forms [] first_fails 10 ≡ ReadFailed ∷ []
+read_fails_calls = refl
+
+end_calls : calls end_is_no_character_forms [] quiet 10 ≡ ReadEnd ∷ []
+end_calls = refl

@@ -1,5 +1,6 @@
 mod Examples
+pub mod OneTree
 pub mod Steps
-mod Texts
+pub mod Texts
 pub mod Worlds
 pub mod Writing

@@ -1,17 +1,17 @@
 -- The laws of the source machine's steps.
-use Rattle.std.proofs.Common.{◌≡◌, ℕ, zero, suc, ◌+◌, ◌≤◌, List, [], ◌∷◌, ◌++◌, length, Option, Some, None, refl, sym, ap, subst, ◌∙◌, arith, length-append, length-set, append_assoc, append-nil, inl, inr}
+use Rattle.std.proofs.Common.{◌≡◌, ℕ, ◌≤◌, List, [], ◌∷◌, ◌++◌, length, Option, Some, None, refl, sym, ap, subst, ◌∙◌, arith, length-append, length-set, append_assoc, append-nil, inl, inr}
 use Rattle.std.proofs.lemmas.List.{map-append}
 use Rattle.std.proofs.Math.Seq.{map-set_same}
 use Rattle.std.proofs.lemmas.Option.{get_or_from_slice_get}
-use Rattle.std.specs.Prelude.{map, slice_get, slice_set}
+use Rattle.std.specs.Prelude.{map, slice_get}
 use Rattle.scheme_base.specs.declared.env.Env.{Env}
-use Rattle.scheme_base.specs.Outside.{Event, ReadByte, ReadEnd, ReadFailed, Wrote, WriteFailed, Ending}
-use Rattle.scheme_base.specs.Values.{Value, Content, Thing, Datum, Procedure}
-use Rattle.scheme_base.specs.Operations.{Channels, sight, plain_store, plain_change, changed}
+use Rattle.scheme_base.specs.Outside.{Event, Wrote, Ending}
+use Rattle.scheme_base.specs.Values.{Content, Thing, Datum, Procedure}
+use Rattle.scheme_base.specs.Operations.{sight, plain_store, plain_change, changed}
 use Rattle.scheme_base.specs.Laws.{GrowsByOne}
 use Rattle.scheme_base.proofs.Operating.{calls_once}
 use Rattle.scheme_base.proofs.Runs.{Steady}
-use Rattle.core_form.specs.Source.{Source, Proc, World, State, Evaluates, Gives, Stopped, step, world_of, trace_of, ending_of, machine, output}
+use Rattle.core_form.specs.Source.{Source, World, State, Evaluates, Gives, Stopped, step, world_of, trace_of, ending_of, machine, output}
 use Rattle.core_form.specs.Laws.{outline, Keeps, Goes}
 use Rattle.core_form.proofs.Worlds.{Stable, step_world}
 

@@ -1,15 +1,15 @@
 -- What a step does to the world of its state, handler by handler: a property of worlds that each change
 -- keeps holds after the step.
-use Rattle.std.proofs.Common.{◌≡◌, ℕ, zero, suc, ◌+◌, ◌≤◌, Bool, true, false, List, [], ◌∷◌, ◌++◌, length, Option, Some, None, refl, sym, ap, subst, ◌∙◌, arith, length-append, length-set, append_assoc}
+use Rattle.std.proofs.Common.{ℕ, Bool, true, false, List, [], ◌∷◌, ◌++◌, length, Option, Some, None}
 use Rattle.std.specs.Prelude.{map, take, drop, nat_eq, is_some, slice_get, slice_set}
 use Rattle.std.specs.Map.{lookup}
 use Rattle.scheme_base.specs.declared.env.Env.{Env}
 use Rattle.scheme_base.specs.declared.op.Op.{Op}
 use Rattle.scheme_base.specs.declared.pos.Pos.{Pos}
-use Rattle.scheme_base.specs.Values.{Value, Integer, Character, False, True, Nil, Unspecified, Eof, Undefined, Object, Box, Content, Thing, Datum, Procedure, ByRun}
-use Rattle.scheme_base.specs.Operations.{Channels, Outcome, Answers, Makes, Changes, Passes, Applies, Captures, Fails, Breaks, operate, sight, plain_store, changed, channels_after, list_value, list_contents, takes, item_or}
+use Rattle.scheme_base.specs.Values.{Value, Undefined, Content, Thing, Datum, Procedure, ByRun}
+use Rattle.scheme_base.specs.Operations.{Outcome, Answers, Makes, Changes, Passes, Applies, Captures, Fails, Breaks, operate, sight, plain_store, changed, channels_after, list_value, list_contents, takes, item_or}
 use Rattle.core_form.specs.Trees.{Tree, Const, Ref, Lambda, If, Set, Call, Prim, Seq, Fix, Define, Trees, none, item, count}
-use Rattle.core_form.specs.Source.{Source, Scope, Goal, Calls, Binds, Does, Frame, Forms, Operator, Operand, Choose, Assign, Bind, Rest, Proc, Closure, Continuation, World, State, Evaluates, Gives, Stopped, read_local, read_top, refer, assign_top, assign, scope_with, next, with_proc, with_list, with_places, enter, entered, resume, call_of, thing_at, call, carry, perform, reach, operands, sequence, closures, objects_from, fix, direct, apply, evaluate, next_form, give, step, world_of}
+use Rattle.core_form.specs.Source.{Source, Scope, Goal, Calls, Binds, Does, Frame, Forms, Operator, Operand, Choose, Assign, Bind, Rest, Proc, Closure, Continuation, World, State, Evaluates, Gives, Stopped, read_local, read_top, refer, assign_top, assign, scope_with, next, with_proc, with_list, enter, entered, resume, call_of, thing_at, carry, reach, operands, sequence, closures, objects_from, direct, apply, evaluate, next_form, give, step, world_of}
 
 -- a property of worlds that holds after each change of what a world has
 pub record Stable {V : Type 0} (P : World V → Type 0) : Type 0 where

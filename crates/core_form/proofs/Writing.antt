@@ -1,5 +1,5 @@
 -- How a piece's text begins, and which pieces are left of it: piece by piece.
-use Rattle.std.proofs.Common.{◌≡◌, ℕ, suc, ◌+◌, ◌-◌, ◌*◌, ◌^◌, length-append, ◌<◌, ◌≤◌, List, [], ◌∷◌, ◌++◌, length, Option, Some, None, Bool, true, false, refl, sym, ap, subst, ◌∙◌, arith, append_assoc, append-nil, Bor}
+use Rattle.std.proofs.Common.{◌≡◌, ℕ, suc, ◌+◌, ◌-◌, ◌*◌, ◌^◌, length-append, ◌<◌, List, [], ◌∷◌, ◌++◌, length, Option, Some, refl, sym, ap, subst, ◌∙◌, arith, append_assoc, append-nil, Bor}
 use Rattle.std.specs.Prelude.{slice_get, codes, get_or}
 use Rattle.std.proofs.lemmas.Option.{slice_get_within, slice_get-get_or}
 use Rattle.std.specs.Fmt.{signed_decimal}
@@ -16,7 +16,7 @@ use Rattle.core_form.specs.declared.program.Form.TheVariants as form
 use Rattle.core_form.specs.declared.piece.Piece.{Piece}
 use Rattle.core_form.specs.declared.piece.Piece.TheVariants.{Expr, Next, List as Listed, Rest, Literal, Tail, More, Close}
 use Rattle.core_form.specs.Trees.{Tree, Const, Ref, Lambda, If, Set, Call, Prim, Seq, Fix, Define, Trees, none, item, Stands, StandAll}
-use Rattle.core_form.specs.Text.{constant_text, tail_text, items_text, more_text, atom_text, dotted, letter_text, truth_text, characters, IsLiteralText, var_text, vars_text, rest_text, IsText, IsListText, IsRestText}
+use Rattle.core_form.specs.Text.{constant_text, tail_text, items_text, more_text, dotted, letter_text, truth_text, characters, IsLiteralText, var_text, vars_text, rest_text, IsText, IsListText}
 use Rattle.core_form.specs.Pieces.{ExprText, RestText, PieceText, StackText, Writes, LinesText}
 
 same_some : {A : Type 0} (o : Option A) (x y : A) → o ≡ Some x → o ≡ Some y → x ≡ y

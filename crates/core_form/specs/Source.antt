@@ -6,7 +6,7 @@
 --
 -- Operands are evaluated from left to right, after the operator (R4RS 4.1.3 leaves this open). A lambda
 -- expression that is called directly makes no object: its parameters are bound in place.
-use Rattle.std.specs.Prelude.{ℕ, zero, suc, ◌+◌, nat_eq, ◌≡◌, List, [], ◌∷◌, ◌++◌, length, map, take, drop, slice_get, slice_set, Option, Some, None, is_some, Bool, true, false, if◌then◌else◌}
+use Rattle.std.specs.Prelude.{ℕ, zero, suc, nat_eq, List, [], ◌∷◌, ◌++◌, length, map, take, drop, slice_get, slice_set, Option, Some, None, is_some, Bool, true, false}
 use Rattle.std.specs.Map.{lookup}
 use Rattle.scheme_base.specs.declared.env.Env.{Env}
 use Rattle.scheme_base.specs.declared.pos.Pos.{Pos}
@@ -16,7 +16,7 @@ use Rattle.scheme_base.specs.declared.error.ErrKind.{ErrKind}
 use Rattle.scheme_base.specs.declared.error.ErrKind.TheVariants as kind
 use Rattle.scheme_base.specs.Outside.{Event, Wrote, Ending}
 use Rattle.scheme_base.specs.Runs.{Machine}
-use Rattle.scheme_base.specs.Values.{Value, False, Nil, Unspecified, Undefined, Object, Thing, Datum, Procedure, ByRun}
+use Rattle.scheme_base.specs.Values.{Value, False, Unspecified, Undefined, Object, Thing, Datum, Procedure, ByRun}
 use Rattle.scheme_base.specs.Literals.{literal, literal_objects}
 use Rattle.scheme_base.specs.Operations.{Channels, no_channels, Outcome, Answers, Makes, Changes, Passes, Applies, Captures, Fails, Breaks, operate, sight, plain_store, entries_after, list_value, list_contents, takes, item_or}
 use Rattle.scheme_base.specs.Stops.{Stop, End, Error, IoStop, told}

@@ -1,5 +1,5 @@
 -- Valid cores and valid renamed cores, part by part.
-use Rattle.std.specs.Prelude.{ℕ, suc, ◌≡◌, ◌&&◌, ◌||◌, List, [], ◌∷◌, ◌++◌, length, slice_get, Option, Some, None, Bool, true, false, IsTrue, not, ◌⊎◌, if◌then◌else◌, nat_eq}
+use Rattle.std.specs.Prelude.{ℕ, ◌≡◌, ◌&&◌, ◌||◌, List, [], ◌∷◌, ◌++◌, length, slice_get, Option, Some, None, Bool, true, false, IsTrue, not, ◌⊎◌, if◌then◌else◌, nat_eq}
 use Rattle.std.specs.List.{list_any, IsDistinct}
 use Rattle.scheme_base.specs.declared.lit.Lit.{Lit}
 use Rattle.scheme_base.specs.declared.lit.Lit.TheVariants as lit

@@ -1,5 +1,5 @@
 -- When two variables are one, and programs whose variables are names, or names and numbers.
-use Rattle.std.specs.Prelude.{ℕ, nat_eq, ◌&&◌, List, Bool, true, false}
+use Rattle.std.specs.Prelude.{nat_eq, ◌&&◌, List, Bool, true, false}
 use Rattle.std.specs.Str.{bytes_eq}
 use Rattle.scheme_base.specs.declared.lit.Lit.{Lit}
 use Rattle.core_form.specs.declared.program.Var.{Var}

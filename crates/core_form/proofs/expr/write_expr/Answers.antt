@@ -1,4 +1,4 @@
-use Rattle.std.proofs.Common.{rules, ◌≡◌, ◌++◌, ◌∷◌, [], refl, sym, ap, subst, ◌∙◌, ◌<◌, length, arith, append-nil}
+use Rattle.std.proofs.Common.{◌++◌, ◌∷◌, [], sym, ap, subst, ◌∙◌, ◌<◌, length, arith, append-nil}
 use Rattle.std.specs.Prelude.{codes}
 use Rattle.scheme_base.specs.Operands.{name_of}
 use Rattle.core_form.specs.declared.program.Form.TheVariants as form

@@ -1,4 +1,4 @@
-use Rattle.std.proofs.Common.{rules, ◌≡◌, ◌++◌, ◌∷◌, [], refl, sym, arith, append-nil}
+use Rattle.std.proofs.Common.{rules, ◌∷◌, [], sym, arith, append-nil}
 use Rattle.std.specs.Prelude.{codes}
 use Rattle.core_form.specs.declared.piece.Piece.TheVariants.{Expr, Rest}
 use Rattle.core_form.proofs.Writing.{list_ends, list_goes}

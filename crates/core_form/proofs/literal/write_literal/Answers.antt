@@ -1,8 +1,8 @@
-use Rattle.std.proofs.Common.{rules, ◌≡◌, ◌++◌, ◌∷◌, [], refl, sym, ap, subst, ◌∙◌, arith, append-nil}
+use Rattle.std.proofs.Common.{rules, ◌++◌, ◌∷◌, [], sym, ap, ◌∙◌, arith, append-nil}
 use Rattle.std.specs.Prelude.{codes}
 use Rattle.std.specs.Fmt.{signed_decimal}
 use Rattle.scheme_base.specs.declared.lit.Lit.TheVariants as lit
-use Rattle.core_form.specs.declared.piece.Piece.TheVariants.{Literal, Tail, More, Close}
+use Rattle.core_form.specs.declared.piece.Piece.TheVariants.{Literal, Tail, More}
 use Rattle.core_form.specs.Text.{characters, letter_text, truth_text}
 use Rattle.core_form.proofs.Writing.{lit_read, plain_goes, pair_goes, row_ends, row_goes, both}
 use Rattle.core_form.proofs.literal.write_literal.Goals as goal

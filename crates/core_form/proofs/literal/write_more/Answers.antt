@@ -1,4 +1,4 @@
-use Rattle.std.proofs.Common.{rules, ◌≡◌, ◌++◌, ◌∷◌, [], refl, sym, arith, append-nil}
+use Rattle.std.proofs.Common.{rules, ◌∷◌, [], sym, arith, append-nil}
 use Rattle.core_form.specs.declared.piece.Piece.TheVariants.{Literal, More}
 use Rattle.core_form.proofs.Writing.{more_ends, more_goes}
 use Rattle.core_form.proofs.literal.write_more.Goals as goal

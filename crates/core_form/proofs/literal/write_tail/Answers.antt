@@ -1,9 +1,7 @@
-use Rattle.std.proofs.Common.{rules, ◌≡◌, ◌++◌, ◌∷◌, [], refl, sym, ap, subst, ◌∙◌, arith, append-nil}
+use Rattle.std.proofs.Common.{◌∷◌, [], refl, sym, arith, append-nil}
 use Rattle.std.specs.Prelude.{codes}
-use Rattle.std.specs.Fmt.{signed_decimal}
 use Rattle.scheme_base.specs.declared.lit.Lit.TheVariants as lit
-use Rattle.core_form.specs.declared.piece.Piece.TheVariants.{Literal, Tail, More, Close}
-use Rattle.core_form.specs.Text.{characters, letter_text}
+use Rattle.core_form.specs.declared.piece.Piece.TheVariants.{Literal, Tail, Close}
 use Rattle.core_form.proofs.Writing.{tail_read, plain_goes, tail_goes, dotted_goes, no_list}
 use Rattle.core_form.proofs.literal.write_tail.Goals as goal
 

@@ -1,12 +1,11 @@
-use Rattle.std.proofs.Common.{rules, ◌≡◌, ◌++◌, ◌∷◌, [], ◌<◌, length, refl, sym, ap, subst, ◌∙◌, arith, append-nil}
+use Rattle.std.proofs.Common.{rules, ◌++◌, sym, ap, subst, ◌∙◌, append-nil}
 use Rattle.core_form.specs.Pieces.{LinesText}
 use Rattle.core_form.proofs.Writing.{one_line, no_line, line_after}
 use Rattle.core_form.proofs.text.core_text.Goals as goal
 
 pub loop-form-init : goal.loop-form-init
 loop-form-init c =
-    λ t h.
-    (
+    λ t h. (
       t,
       subst (λ ids. LinesText c.args.core.now ids t) (sym c.as_slice-forms.ensures) h,
       ap (λ x. x ++ t) (sym c.new-text.ensures.items),

@@ -1,4 +1,4 @@
-use Rattle.std.proofs.Common.{rules, ◌≡◌, ◌++◌, ◌∷◌, [], refl, sym, subst, arith, append-nil}
+use Rattle.std.proofs.Common.{◌∷◌, [], sym, subst, arith}
 use Rattle.core_form.specs.declared.piece.Piece.TheVariants.{Expr}
 use Rattle.core_form.specs.Pieces.{Writes}
 use Rattle.core_form.proofs.Writing.{next_goes}
