@@ -79,11 +79,11 @@ abbrev pub IsLambda : {V : Type 0} → Tree V → Type 0
 IsLambda (Lambda p xs rest body) = Unit {0}
 IsLambda e = ⊥
 
--- as many lambda expressions as variables, which none of them and not the body assigns
 abbrev pub AreLambdas : {V : Type 0} → Trees V → Type 0
 AreLambdas none = Unit {0}
 AreLambdas (item e es) = IsLambda e × AreLambdas es
 
+-- neither these expressions nor the body assign one of the variables
 abbrev pub NoneAssigned : {V : Type 0} → (V → V → Bool) → List V → Trees V → Tree V → Type 0
 NoneAssigned same [] ls body = Unit {0}
 NoneAssigned same (x ∷ xs) ls body =
@@ -92,7 +92,8 @@ NoneAssigned same (x ∷ xs) ls body =
 abbrev mutual
   -- The undefined value is only an operand of a direct call, for a parameter that the body assigns. A
   -- definition is a form of the program. An operation has its number of operands, and the names that one
-  -- lambda expression or one `Fix` binds differ.
+  -- lambda expression or one `Fix` binds differ. A `Fix` binds as many lambda expressions as it has
+  -- variables, and nothing assigns these.
   pub IsFine : {V : Type 0} → List Lit → (V → V → Bool) → Tree V → Type 0
   IsFine lits same (Const p l) = is_undefined (slice_get lits l) ≡ false
   IsFine lits same (Ref p x) = Unit {0}
