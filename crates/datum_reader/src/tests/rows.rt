@@ -174,7 +174,7 @@ pub(super) const BLANKS: [(&[u8], &[u8]); 13] = [
     (b"'\n;c\n a", b"(quote a)\n"),
 ];
 
-pub(super) const LISTS: [(&[u8], &[u8]); 41] = [
+pub(super) const LISTS: [(&[u8], &[u8]); 44] = [
     (b"()", b"()\n"),
     (b"(())", b"(())\n"),
     (b"( a )", b"(a)\n"),
@@ -195,6 +195,9 @@ pub(super) const LISTS: [(&[u8], &[u8]); 41] = [
     (b"(a .)", b"stray 1:5"),
     (b"(a . b c)", b"stray 1:8"),
     (b"(a . b . c)", b"stray 1:8"),
+    (b"(a .", b"unclosed 1:1"),
+    (b"(a . '", b"unclosed 1:6"),
+    (b"(a . 'b", b"unclosed 1:1"),
     (b"(a . b", b"unclosed 1:1"),
     (b"(a . (b)", b"unclosed 1:1"),
     (b"(a.b)", b"(a.b)\n"),
@@ -218,13 +221,14 @@ pub(super) const LISTS: [(&[u8], &[u8]); 41] = [
     (b"(1 #t #\\a \"s\" n)", b"(1 #t #\\a \"s\" n)\n"),
 ];
 
-pub(super) const VECTORS: [(&[u8], &[u8]); 11] = [
+pub(super) const VECTORS: [(&[u8], &[u8]); 12] = [
     (b"#()", b"#()\n"),
     (b"#(a b)", b"#(a b)\n"),
     (b"#(a . b)", b"stray 1:5"),
     (b"#( . a)", b"stray 1:4"),
     (b"#((a) #(b))", b"#((a) #(b))\n"),
     (b"#(1 2", b"unclosed 1:1"),
+    (b"#(1 (2)", b"unclosed 1:1"),
     (b"#(", b"unclosed 1:1"),
     (b"#(a #(", b"unclosed 1:5"),
     (b"# (a)", b"bad token 1:1"),
