@@ -54,6 +54,13 @@ bytes_of Half = 2
 bytes_of Word = 4
 bytes_of Double = 8
 
+-- the number from which on the numbers of so many bytes are negative, as signed ones
+abbrev pub half_of : Width → ℕ
+half_of Byte = 0x80
+half_of Half = 0x8000
+half_of Word = 0x8000_0000
+half_of Double = 0x8000_0000_0000_0000
+
 abbrev pub total_of : List Region → ℕ
 total_of [] = 0
 total_of (region ∷ rest) = region.size + total_of rest

@@ -3,7 +3,7 @@ use Rattle.std.specs.Prelude.{ℕ, pos, negsuc, ◌+◌, List, [], Option, Some,
 use Rattle.scheme_base.specs.declared.env.Env.{Env}
 use Rattle.scheme_base.specs.Outside.{Calls}
 use Rattle.rv_form.specs.declared.instr.Instr.{Instr}
-use Rattle.rv_form.specs.Machine.{World, State, Run, Running, Ended, Trapped, Fetched, Found, NoWord, NoPlace, with_reg, Ask, Answers, Reads, Writes, Sends, Leaves, Unknown, asked, system}
+use Rattle.rv_form.specs.Machine.{World, State, Run, Running, Ended, Trapped, Fetched, Found, NoWord, NoPlace, with_reg, Ask, Answers, Reads, Writes, Sends, Leaves, Unknown, store, asked, system}
 use Rattle.rv_emulator.specs.declared.region.Region.{Region}
 use Rattle.rv_emulator.specs.declared.registers.Registers.{Registers}
 use Rattle.rv_emulator.specs.declared.next.Next.{Next}
@@ -55,6 +55,10 @@ after_load pc None = next.Trap 3
 abbrev pub with_loaded : (shape : ℕ → ℕ) → (rd : ℕ) → Option ℕ → (ℕ → ℕ) → ℕ → ℕ
 with_loaded shape rd (Some n) regs = with_reg regs rd (shape n)
 with_loaded shape rd None regs = regs
+
+abbrev pub with_stored : (usable : Bool) → (count a value : ℕ) → (ℕ → ℕ) → ℕ → ℕ
+with_stored true count a value memory = store count memory a value
+with_stored false count a value memory = memory
 
 abbrev pub after_store : (pc : ℕ) → Bool → Next
 after_store pc true = next.Go (pc + 4)

@@ -1,419 +1,98 @@
 //! What each instruction does.
-ghost use Rattle.std.specs.Prelude.{◌≡◌, ◌+◌, ◌*◌, ◌<◌, ◌^◌, if◌then◌else◌, true, IfSome};
+ghost use Rattle.std.specs.Prelude.{◌≡◌, ◌+◌, ◌<◌, ◌^◌, if◌then◌else◌};
 ghost use Rattle.scheme_base.specs.declared.env.Env.{Env};
 ghost use Rattle.scheme_base.specs.Outside.{Calls};
 ghost use Rattle.rv_form.specs.Instruction.{IsValid};
 ghost use Rattle.rv_form.specs.Numbers.{add as sum_of, extended as extended_of, word as word_of};
 ghost use Rattle.rv_form.specs.Machine.{act, as_it_is, with_reg};
-ghost use Rattle.rv_emulator.specs.Memory.{Laid};
-ghost use Rattle.rv_emulator.specs.States.{Kept, after_load, after_store, done, reads, regs_of, state_of, with_loaded, world_with};
+ghost use Rattle.rv_emulator.specs.Memory.{Laid, all_flagged, bytes_of, half_of, loaded_by, memory_of};
+ghost use Rattle.rv_emulator.specs.States.{Kept, after_load, after_store, done, reads, regs_of, state_of, with_loaded, with_stored, world_with};
 
 use crate::memory::{load, store};
 use crate::next::Next;
 use crate::operation::{
-    add, divide, divide_unsigned, even, extended, flag, high_mixed, high_signed, high_unsigned,
-    less, low_half, mul, narrow, remainder, remainder_unsigned, shift_left, shift_left_narrow,
-    shift_right, shift_right_narrow, shift_signed, shift_signed_narrow, sub, upper, word,
+    add, div, divu, divuw, divw, even, extended, flag, high_mixed, high_signed, high_unsigned,
+    less, mul, narrow, rem, remu, remuw, remw, shift_left, shift_right, shift_signed, sllw, sraw,
+    srlw, sub, upper, word,
 };
+use crate::region::Width::{Byte, Double, Half, Word};
 use crate::region::{READS, Region, Width};
 use crate::registers::Registers;
 use rv_form::Instr;
 
-/// Does an instruction that stands at `pc`, all but a system call.
+/// Does an instruction that stands at `pc`, all but a system call; `x` are the registers.
 #[inline]
-pub fn exec(
-    instr: Instr,
-    pc: u64,
-    registers: &mut Registers,
-    regions: &[Region],
-    bytes: &mut [u8],
-) -> Next
+pub fn exec(instr: Instr, pc: u64, x: &mut Registers, regions: &[Region], bytes: &mut [u8]) -> Next
     requires valid { IsValid instr }
     requires place { pc < 2 ^ 47 }
     requires laid { Laid regions.now bytes.old }
-    ensures done { (env : Env) (calls : Calls) → act (world_with regions.now env) instr (state_of pc registers.old regions.now bytes.old calls) ≡ done (world_with regions.now env) pc result (state_of pc registers.new regions.now bytes.new calls) }
+    ensures done { (env : Env) (calls : Calls) → act (world_with regions.now env) instr (state_of pc x.old regions.now bytes.old calls) ≡ done (world_with regions.now env) pc result (state_of pc x.new regions.now bytes.new calls) }
     ensures laid { Laid regions.now bytes.new }
     ensures kept { Kept regions.now bytes.old bytes.new }
 {
     match instr {
-        Instr::Lui { rd, imm } => put(pc, rd, upper(imm), registers),
-        Instr::Auipc { rd, imm } => put(pc, rd, add(pc, upper(imm)), registers),
-        Instr::Jal { rd, imm } => jump(add(pc, word(imm)), pc, rd, registers),
-        Instr::Jalr { rd, rs1, imm } => jump(even(address(registers, rs1, imm)), pc, rd, registers),
-        Instr::Beq { rs1, rs2, imm } => branch(registers.read(rs1) == registers.read(rs2), pc, imm),
-        Instr::Bne { rs1, rs2, imm } => branch(registers.read(rs1) != registers.read(rs2), pc, imm),
-        Instr::Blt { rs1, rs2, imm } => branch(
-            less(registers.read(rs1), registers.read(rs2)),
-            pc,
-            imm,
-        ),
-        Instr::Bge { rs1, rs2, imm } => branch(
-            !less(registers.read(rs1), registers.read(rs2)),
-            pc,
-            imm,
-        ),
-        Instr::Bltu { rs1, rs2, imm } => branch(registers.read(rs1) < registers.read(rs2), pc, imm),
-        Instr::Bgeu { rs1, rs2, imm } => branch(
-            registers.read(rs1) >= registers.read(rs2),
-            pc,
-            imm,
-        ),
-        Instr::Lb { rd, rs1, imm } => load_signed(
-            pc,
-            rd,
-            0x80,
-            load(
-                regions,
-                bytes,
-                READS,
-                Width::Byte,
-                address(registers, rs1, imm),
-            ),
-            registers,
-        ),
-        Instr::Lh { rd, rs1, imm } => load_signed(
-            pc,
-            rd,
-            0x8000,
-            load(
-                regions,
-                bytes,
-                READS,
-                Width::Half,
-                address(registers, rs1, imm),
-            ),
-            registers,
-        ),
-        Instr::Lw { rd, rs1, imm } => load_signed(
-            pc,
-            rd,
-            0x8000_0000,
-            load(
-                regions,
-                bytes,
-                READS,
-                Width::Word,
-                address(registers, rs1, imm),
-            ),
-            registers,
-        ),
-        Instr::Ld { rd, rs1, imm } => load_plain(
-            pc,
-            rd,
-            load(
-                regions,
-                bytes,
-                READS,
-                Width::Double,
-                address(registers, rs1, imm),
-            ),
-            registers,
-        ),
-        Instr::Lbu { rd, rs1, imm } => load_plain(
-            pc,
-            rd,
-            load(
-                regions,
-                bytes,
-                READS,
-                Width::Byte,
-                address(registers, rs1, imm),
-            ),
-            registers,
-        ),
-        Instr::Lhu { rd, rs1, imm } => load_plain(
-            pc,
-            rd,
-            load(
-                regions,
-                bytes,
-                READS,
-                Width::Half,
-                address(registers, rs1, imm),
-            ),
-            registers,
-        ),
-        Instr::Lwu { rd, rs1, imm } => load_plain(
-            pc,
-            rd,
-            load(
-                regions,
-                bytes,
-                READS,
-                Width::Word,
-                address(registers, rs1, imm),
-            ),
-            registers,
-        ),
-        Instr::Sb { rs1, rs2, imm } => stored(
-            pc,
-            store(
-                regions,
-                bytes,
-                Width::Byte,
-                address(registers, rs1, imm),
-                registers.read(rs2),
-            ),
-        ),
-        Instr::Sh { rs1, rs2, imm } => stored(
-            pc,
-            store(
-                regions,
-                bytes,
-                Width::Half,
-                address(registers, rs1, imm),
-                registers.read(rs2),
-            ),
-        ),
-        Instr::Sw { rs1, rs2, imm } => stored(
-            pc,
-            store(
-                regions,
-                bytes,
-                Width::Word,
-                address(registers, rs1, imm),
-                registers.read(rs2),
-            ),
-        ),
-        Instr::Sd { rs1, rs2, imm } => stored(
-            pc,
-            store(
-                regions,
-                bytes,
-                Width::Double,
-                address(registers, rs1, imm),
-                registers.read(rs2),
-            ),
-        ),
-        Instr::Addi { rd, rs1, imm } => put(pc, rd, add(registers.read(rs1), word(imm)), registers),
-        Instr::Slti { rd, rs1, imm } => put(
-            pc,
-            rd,
-            flag(less(registers.read(rs1), word(imm))),
-            registers,
-        ),
-        Instr::Sltiu { rd, rs1, imm } => put(
-            pc,
-            rd,
-            flag(registers.read(rs1) < word(imm)),
-            registers,
-        ),
-        Instr::Xori { rd, rs1, imm } => put(pc, rd, registers.read(rs1) ^ word(imm), registers),
-        Instr::Ori { rd, rs1, imm } => put(pc, rd, registers.read(rs1) | word(imm), registers),
-        Instr::Andi { rd, rs1, imm } => put(pc, rd, registers.read(rs1) & word(imm), registers),
-        Instr::Slli { rd, rs1, imm } => put(
-            pc,
-            rd,
-            shift_left(registers.read(rs1), word(imm)),
-            registers,
-        ),
-        Instr::Srli { rd, rs1, imm } => put(
-            pc,
-            rd,
-            shift_right(registers.read(rs1), word(imm)),
-            registers,
-        ),
-        Instr::Srai { rd, rs1, imm } => put(
-            pc,
-            rd,
-            shift_signed(registers.read(rs1), word(imm)),
-            registers,
-        ),
-        Instr::Add { rd, rs1, rs2 } => put(
-            pc,
-            rd,
-            add(registers.read(rs1), registers.read(rs2)),
-            registers,
-        ),
-        Instr::Sub { rd, rs1, rs2 } => put(
-            pc,
-            rd,
-            sub(registers.read(rs1), registers.read(rs2)),
-            registers,
-        ),
-        Instr::Sll { rd, rs1, rs2 } => put(
-            pc,
-            rd,
-            shift_left(registers.read(rs1), registers.read(rs2)),
-            registers,
-        ),
-        Instr::Slt { rd, rs1, rs2 } => put(
-            pc,
-            rd,
-            flag(less(registers.read(rs1), registers.read(rs2))),
-            registers,
-        ),
-        Instr::Sltu { rd, rs1, rs2 } => put(
-            pc,
-            rd,
-            flag(registers.read(rs1) < registers.read(rs2)),
-            registers,
-        ),
-        Instr::Xor { rd, rs1, rs2 } => put(
-            pc,
-            rd,
-            registers.read(rs1) ^ registers.read(rs2),
-            registers,
-        ),
-        Instr::Srl { rd, rs1, rs2 } => put(
-            pc,
-            rd,
-            shift_right(registers.read(rs1), registers.read(rs2)),
-            registers,
-        ),
-        Instr::Sra { rd, rs1, rs2 } => put(
-            pc,
-            rd,
-            shift_signed(registers.read(rs1), registers.read(rs2)),
-            registers,
-        ),
-        Instr::Or { rd, rs1, rs2 } => put(
-            pc,
-            rd,
-            registers.read(rs1) | registers.read(rs2),
-            registers,
-        ),
-        Instr::And { rd, rs1, rs2 } => put(
-            pc,
-            rd,
-            registers.read(rs1) & registers.read(rs2),
-            registers,
-        ),
-        Instr::Mul { rd, rs1, rs2 } => put(
-            pc,
-            rd,
-            mul(registers.read(rs1), registers.read(rs2)),
-            registers,
-        ),
-        Instr::Mulh { rd, rs1, rs2 } => put(
-            pc,
-            rd,
-            high_signed(registers.read(rs1), registers.read(rs2)),
-            registers,
-        ),
-        Instr::Mulhsu { rd, rs1, rs2 } => put(
-            pc,
-            rd,
-            high_mixed(registers.read(rs1), registers.read(rs2)),
-            registers,
-        ),
-        Instr::Mulhu { rd, rs1, rs2 } => put(
-            pc,
-            rd,
-            high_unsigned(registers.read(rs1), registers.read(rs2)),
-            registers,
-        ),
-        Instr::Div { rd, rs1, rs2 } => put(
-            pc,
-            rd,
-            divide(registers.read(rs1), registers.read(rs2)),
-            registers,
-        ),
-        Instr::Divu { rd, rs1, rs2 } => put(
-            pc,
-            rd,
-            divide_unsigned(registers.read(rs1), registers.read(rs2)),
-            registers,
-        ),
-        Instr::Rem { rd, rs1, rs2 } => put(
-            pc,
-            rd,
-            remainder(registers.read(rs1), registers.read(rs2)),
-            registers,
-        ),
-        Instr::Remu { rd, rs1, rs2 } => put(
-            pc,
-            rd,
-            remainder_unsigned(registers.read(rs1), registers.read(rs2)),
-            registers,
-        ),
-        Instr::Addiw { rd, rs1, imm } => put(
-            pc,
-            rd,
-            narrow(add(registers.read(rs1), word(imm))),
-            registers,
-        ),
-        Instr::Slliw { rd, rs1, imm } => put(
-            pc,
-            rd,
-            shift_left_narrow(registers.read(rs1), word(imm)),
-            registers,
-        ),
-        Instr::Srliw { rd, rs1, imm } => put(
-            pc,
-            rd,
-            shift_right_narrow(registers.read(rs1), word(imm)),
-            registers,
-        ),
-        Instr::Sraiw { rd, rs1, imm } => put(
-            pc,
-            rd,
-            shift_signed_narrow(registers.read(rs1), word(imm)),
-            registers,
-        ),
-        Instr::Addw { rd, rs1, rs2 } => put(
-            pc,
-            rd,
-            narrow(add(registers.read(rs1), registers.read(rs2))),
-            registers,
-        ),
-        Instr::Subw { rd, rs1, rs2 } => put(
-            pc,
-            rd,
-            narrow(sub(registers.read(rs1), registers.read(rs2))),
-            registers,
-        ),
-        Instr::Sllw { rd, rs1, rs2 } => put(
-            pc,
-            rd,
-            shift_left_narrow(registers.read(rs1), registers.read(rs2)),
-            registers,
-        ),
-        Instr::Srlw { rd, rs1, rs2 } => put(
-            pc,
-            rd,
-            shift_right_narrow(registers.read(rs1), registers.read(rs2)),
-            registers,
-        ),
-        Instr::Sraw { rd, rs1, rs2 } => put(
-            pc,
-            rd,
-            shift_signed_narrow(registers.read(rs1), registers.read(rs2)),
-            registers,
-        ),
-        Instr::Mulw { rd, rs1, rs2 } => put(
-            pc,
-            rd,
-            narrow(mul(registers.read(rs1), registers.read(rs2))),
-            registers,
-        ),
-        Instr::Divw { rd, rs1, rs2 } => put(
-            pc,
-            rd,
-            narrow(divide(narrow(registers.read(rs1)), narrow(registers.read(rs2)))),
-            registers,
-        ),
-        Instr::Divuw { rd, rs1, rs2 } => put(
-            pc,
-            rd,
-            narrow(divide_unsigned(low_half(registers.read(rs1)), low_half(registers.read(rs2)))),
-            registers,
-        ),
-        Instr::Remw { rd, rs1, rs2 } => put(
-            pc,
-            rd,
-            narrow(remainder(narrow(registers.read(rs1)), narrow(registers.read(rs2)))),
-            registers,
-        ),
-        Instr::Remuw { rd, rs1, rs2 } => put(
-            pc,
-            rd,
-            narrow(remainder_unsigned(
-                low_half(registers.read(rs1)),
-                low_half(registers.read(rs2)),
-            )),
-            registers,
-        ),
+        Instr::Lui { rd, imm } => put(upper(imm), rd, pc, x),
+        Instr::Auipc { rd, imm } => put(add(pc, upper(imm)), rd, pc, x),
+        Instr::Jal { rd, imm } => jump(add(pc, word(imm)), rd, pc, x),
+        Instr::Jalr { rd, rs1, imm } => jump(even(address(rs1, imm, x)), rd, pc, x),
+        Instr::Beq { rs1, rs2, imm } => branch(x.read(rs1) == x.read(rs2), imm, pc),
+        Instr::Bne { rs1, rs2, imm } => branch(x.read(rs1) != x.read(rs2), imm, pc),
+        Instr::Blt { rs1, rs2, imm } => branch(less(x.read(rs1), x.read(rs2)), imm, pc),
+        Instr::Bge { rs1, rs2, imm } => branch(!less(x.read(rs1), x.read(rs2)), imm, pc),
+        Instr::Bltu { rs1, rs2, imm } => branch(x.read(rs1) < x.read(rs2), imm, pc),
+        Instr::Bgeu { rs1, rs2, imm } => branch(x.read(rs1) >= x.read(rs2), imm, pc),
+        Instr::Lb { rd, rs1, imm } => load_signed(Byte, rd, rs1, imm, pc, x, regions, bytes),
+        Instr::Lh { rd, rs1, imm } => load_signed(Half, rd, rs1, imm, pc, x, regions, bytes),
+        Instr::Lw { rd, rs1, imm } => load_signed(Word, rd, rs1, imm, pc, x, regions, bytes),
+        Instr::Ld { rd, rs1, imm } => load_plain(Double, rd, rs1, imm, pc, x, regions, bytes),
+        Instr::Lbu { rd, rs1, imm } => load_plain(Byte, rd, rs1, imm, pc, x, regions, bytes),
+        Instr::Lhu { rd, rs1, imm } => load_plain(Half, rd, rs1, imm, pc, x, regions, bytes),
+        Instr::Lwu { rd, rs1, imm } => load_plain(Word, rd, rs1, imm, pc, x, regions, bytes),
+        Instr::Sb { rs1, rs2, imm } => store_at(Byte, rs1, rs2, imm, pc, x, regions, bytes),
+        Instr::Sh { rs1, rs2, imm } => store_at(Half, rs1, rs2, imm, pc, x, regions, bytes),
+        Instr::Sw { rs1, rs2, imm } => store_at(Word, rs1, rs2, imm, pc, x, regions, bytes),
+        Instr::Sd { rs1, rs2, imm } => store_at(Double, rs1, rs2, imm, pc, x, regions, bytes),
+        Instr::Addi { rd, rs1, imm } => put(add(x.read(rs1), word(imm)), rd, pc, x),
+        Instr::Slti { rd, rs1, imm } => put(flag(less(x.read(rs1), word(imm))), rd, pc, x),
+        Instr::Sltiu { rd, rs1, imm } => put(flag(x.read(rs1) < word(imm)), rd, pc, x),
+        Instr::Xori { rd, rs1, imm } => put(x.read(rs1) ^ word(imm), rd, pc, x),
+        Instr::Ori { rd, rs1, imm } => put(x.read(rs1) | word(imm), rd, pc, x),
+        Instr::Andi { rd, rs1, imm } => put(x.read(rs1) & word(imm), rd, pc, x),
+        Instr::Slli { rd, rs1, imm } => put(shift_left(x.read(rs1), word(imm)), rd, pc, x),
+        Instr::Srli { rd, rs1, imm } => put(shift_right(x.read(rs1), word(imm)), rd, pc, x),
+        Instr::Srai { rd, rs1, imm } => put(shift_signed(x.read(rs1), word(imm)), rd, pc, x),
+        Instr::Add { rd, rs1, rs2 } => put(add(x.read(rs1), x.read(rs2)), rd, pc, x),
+        Instr::Sub { rd, rs1, rs2 } => put(sub(x.read(rs1), x.read(rs2)), rd, pc, x),
+        Instr::Sll { rd, rs1, rs2 } => put(shift_left(x.read(rs1), x.read(rs2)), rd, pc, x),
+        Instr::Slt { rd, rs1, rs2 } => put(flag(less(x.read(rs1), x.read(rs2))), rd, pc, x),
+        Instr::Sltu { rd, rs1, rs2 } => put(flag(x.read(rs1) < x.read(rs2)), rd, pc, x),
+        Instr::Xor { rd, rs1, rs2 } => put(x.read(rs1) ^ x.read(rs2), rd, pc, x),
+        Instr::Srl { rd, rs1, rs2 } => put(shift_right(x.read(rs1), x.read(rs2)), rd, pc, x),
+        Instr::Sra { rd, rs1, rs2 } => put(shift_signed(x.read(rs1), x.read(rs2)), rd, pc, x),
+        Instr::Or { rd, rs1, rs2 } => put(x.read(rs1) | x.read(rs2), rd, pc, x),
+        Instr::And { rd, rs1, rs2 } => put(x.read(rs1) & x.read(rs2), rd, pc, x),
+        Instr::Mul { rd, rs1, rs2 } => put(mul(x.read(rs1), x.read(rs2)), rd, pc, x),
+        Instr::Mulh { rd, rs1, rs2 } => put(high_signed(x.read(rs1), x.read(rs2)), rd, pc, x),
+        Instr::Mulhsu { rd, rs1, rs2 } => put(high_mixed(x.read(rs1), x.read(rs2)), rd, pc, x),
+        Instr::Mulhu { rd, rs1, rs2 } => put(high_unsigned(x.read(rs1), x.read(rs2)), rd, pc, x),
+        Instr::Div { rd, rs1, rs2 } => put(div(x.read(rs1), x.read(rs2)), rd, pc, x),
+        Instr::Divu { rd, rs1, rs2 } => put(divu(x.read(rs1), x.read(rs2)), rd, pc, x),
+        Instr::Rem { rd, rs1, rs2 } => put(rem(x.read(rs1), x.read(rs2)), rd, pc, x),
+        Instr::Remu { rd, rs1, rs2 } => put(remu(x.read(rs1), x.read(rs2)), rd, pc, x),
+        Instr::Addiw { rd, rs1, imm } => put(narrow(add(x.read(rs1), word(imm))), rd, pc, x),
+        Instr::Slliw { rd, rs1, imm } => put(sllw(x.read(rs1), word(imm)), rd, pc, x),
+        Instr::Srliw { rd, rs1, imm } => put(srlw(x.read(rs1), word(imm)), rd, pc, x),
+        Instr::Sraiw { rd, rs1, imm } => put(sraw(x.read(rs1), word(imm)), rd, pc, x),
+        Instr::Addw { rd, rs1, rs2 } => put(narrow(add(x.read(rs1), x.read(rs2))), rd, pc, x),
+        Instr::Subw { rd, rs1, rs2 } => put(narrow(sub(x.read(rs1), x.read(rs2))), rd, pc, x),
+        Instr::Sllw { rd, rs1, rs2 } => put(sllw(x.read(rs1), x.read(rs2)), rd, pc, x),
+        Instr::Srlw { rd, rs1, rs2 } => put(srlw(x.read(rs1), x.read(rs2)), rd, pc, x),
+        Instr::Sraw { rd, rs1, rs2 } => put(sraw(x.read(rs1), x.read(rs2)), rd, pc, x),
+        Instr::Mulw { rd, rs1, rs2 } => put(narrow(mul(x.read(rs1), x.read(rs2))), rd, pc, x),
+        Instr::Divw { rd, rs1, rs2 } => put(divw(x.read(rs1), x.read(rs2)), rd, pc, x),
+        Instr::Divuw { rd, rs1, rs2 } => put(divuw(x.read(rs1), x.read(rs2)), rd, pc, x),
+        Instr::Remw { rd, rs1, rs2 } => put(remw(x.read(rs1), x.read(rs2)), rd, pc, x),
+        Instr::Remuw { rd, rs1, rs2 } => put(remuw(x.read(rs1), x.read(rs2)), rd, pc, x),
         Instr::Fence { .. } => Next::Go(pc + 4),
         Instr::Ecall => Next::Call,
         Instr::Ebreak => Next::Trap(6),
@@ -422,40 +101,40 @@ pub fn exec(
 
 /// The address that a register and an immediate give.
 #[inline]
-fn address(registers: &Registers, rs1: u8, imm: i32) -> u64
+fn address(rs1: u8, imm: i32, x: &Registers) -> u64
     requires { rs1 < 32 }
-    ensures { result ≡ sum_of (reads registers.now rs1) (word_of imm) }
+    ensures { result ≡ sum_of (reads x.now rs1) (word_of imm) }
 {
-    add(registers.read(rs1), word(imm))
+    add(x.read(rs1), word(imm))
 }
 
 /// Puts a value into a register, and goes on to the next instruction.
 #[inline]
-fn put(pc: u64, rd: u8, value: u64, registers: &mut Registers) -> Next
+fn put(value: u64, rd: u8, pc: u64, x: &mut Registers) -> Next
     requires place { pc < 2 ^ 47 }
     requires register { rd < 32 }
     ensures next { result ≡ Next.Go (pc + 4) }
-    ensures registers { regs_of registers.new ≡ with_reg (regs_of registers.old) rd value }
+    ensures registers { regs_of x.new ≡ with_reg (regs_of x.old) rd value }
 {
-    registers.put(rd, value);
+    x.put(rd, value);
     Next::Go(pc + 4)
 }
 
 /// Goes to a place, with that of the next instruction in a register.
 #[inline]
-fn jump(to: u64, pc: u64, rd: u8, registers: &mut Registers) -> Next
+fn jump(to: u64, rd: u8, pc: u64, x: &mut Registers) -> Next
     requires place { pc < 2 ^ 47 }
     requires register { rd < 32 }
     ensures next { result ≡ Next.Go to }
-    ensures registers { regs_of registers.new ≡ with_reg (regs_of registers.old) rd (pc + 4) }
+    ensures registers { regs_of x.new ≡ with_reg (regs_of x.old) rd (pc + 4) }
 {
-    registers.put(rd, pc + 4);
+    x.put(rd, pc + 4);
     Next::Go(to)
 }
 
 /// Goes as far as a branch says where it is taken, and else to the next instruction.
 #[inline]
-fn branch(taken: bool, pc: u64, imm: i32) -> Next
+fn branch(taken: bool, imm: i32, pc: u64) -> Next
     requires { pc < 2 ^ 47 }
     ensures { result ≡ Next.Go (if taken then sum_of pc (word_of imm) else pc + 4) }
 {
@@ -466,43 +145,78 @@ fn branch(taken: bool, pc: u64, imm: i32) -> Next
     }
 }
 
-/// Puts a number that was loaded into a register, with the sign that it has below `2 * half`.
+/// Loads a number into a register, as a signed one.
 #[inline]
-fn load_signed(pc: u64, rd: u8, half: u64, loaded: Option<u64>, registers: &mut Registers) -> Next
+fn load_signed(
+    width: Width,
+    rd: u8,
+    rs1: u8,
+    imm: i32,
+    pc: u64,
+    x: &mut Registers,
+    regions: &[Region],
+    bytes: &[u8],
+) -> Next
     requires place { pc < 2 ^ 47 }
-    requires register { rd < 32 }
-    requires half { half < 2 ^ 63 }
-    requires number { IfSome loaded (λ n. n < 2 * half) }
-    ensures next { result ≡ after_load pc loaded }
-    ensures registers { regs_of registers.new ≡ with_loaded (extended_of half) rd loaded (regs_of registers.old) }
+    requires registers { (rd < 32) × (rs1 < 32) }
+    requires laid { Laid regions.now bytes.now }
+    ensures next { result ≡ after_load pc (loaded_by regions.now bytes.now 4 (bytes_of width) (sum_of (reads x.old rs1) (word_of imm))) }
+    ensures registers { regs_of x.new ≡ with_loaded (extended_of (half_of width)) rd
+        (loaded_by regions.now bytes.now 4 (bytes_of width) (sum_of (reads x.old rs1) (word_of imm))) (regs_of x.old) }
 {
-    match loaded {
-        Some(n) => put(pc, rd, extended(half, n), registers),
+    match load(regions, bytes, READS, width, address(rs1, imm, x)) {
+        Some(n) => put(extended(width.half(), n), rd, pc, x),
         None => Next::Trap(3),
     }
 }
 
-/// Puts a number that was loaded into a register.
+/// Loads a number into a register as it is.
 #[inline]
-fn load_plain(pc: u64, rd: u8, loaded: Option<u64>, registers: &mut Registers) -> Next
+fn load_plain(
+    width: Width,
+    rd: u8,
+    rs1: u8,
+    imm: i32,
+    pc: u64,
+    x: &mut Registers,
+    regions: &[Region],
+    bytes: &[u8],
+) -> Next
     requires place { pc < 2 ^ 47 }
-    requires register { rd < 32 }
-    ensures next { result ≡ after_load pc loaded }
-    ensures registers { regs_of registers.new ≡ with_loaded as_it_is rd loaded (regs_of registers.old) }
+    requires registers { (rd < 32) × (rs1 < 32) }
+    requires laid { Laid regions.now bytes.now }
+    ensures next { result ≡ after_load pc (loaded_by regions.now bytes.now 4 (bytes_of width) (sum_of (reads x.old rs1) (word_of imm))) }
+    ensures registers { regs_of x.new ≡ with_loaded as_it_is rd
+        (loaded_by regions.now bytes.now 4 (bytes_of width) (sum_of (reads x.old rs1) (word_of imm))) (regs_of x.old) }
 {
-    match loaded {
-        Some(n) => put(pc, rd, n, registers),
+    match load(regions, bytes, READS, width, address(rs1, imm, x)) {
+        Some(n) => put(n, rd, pc, x),
         None => Next::Trap(3),
     }
 }
 
-/// Goes on after a store, where each byte could be written.
+/// Stores the lowest bytes of a register.
 #[inline]
-fn stored(pc: u64, written: bool) -> Next
-    requires { pc < 2 ^ 47 }
-    ensures { result ≡ after_store pc written }
+fn store_at(
+    width: Width,
+    rs1: u8,
+    rs2: u8,
+    imm: i32,
+    pc: u64,
+    x: &Registers,
+    regions: &[Region],
+    bytes: &mut [u8],
+) -> Next
+    requires place { pc < 2 ^ 47 }
+    requires registers { (rs1 < 32) × (rs2 < 32) }
+    requires laid { Laid regions.now bytes.old }
+    ensures next { result ≡ after_store pc (all_flagged regions.now 2 (bytes_of width) (sum_of (reads x.now rs1) (word_of imm))) }
+    ensures stored { memory_of regions.now bytes.new ≡ with_stored (all_flagged regions.now 2 (bytes_of width) (sum_of (reads x.now rs1) (word_of imm)))
+        (bytes_of width) (sum_of (reads x.now rs1) (word_of imm)) (reads x.now rs2) (memory_of regions.now bytes.old) }
+    ensures laid { Laid regions.now bytes.new }
+    ensures kept { Kept regions.now bytes.old bytes.new }
 {
-    if written {
+    if store(regions, bytes, width, address(rs1, imm, x), x.read(rs2)) {
         Next::Go(pc + 4)
     } else {
         Next::Trap(4)

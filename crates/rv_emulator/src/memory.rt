@@ -1,5 +1,5 @@
 //! Loads, stores and the fetching of instructions.
-ghost use Rattle.std.specs.Prelude.{◌≡◌, ◌+◌, ◌<◌, ◌≤◌, ◌^◌, ℕ, IfSome, length, slice_index, true};
+ghost use Rattle.std.specs.Prelude.{◌≡◌, ◌+◌, ◌<◌, ◌≤◌, ◌^◌, ℕ, IfSome, length, slice_index, false, true};
 ghost use Rattle.std.specs.Bool.{OnTrue};
 ghost use Rattle.rv_form.specs.declared.instr.Instr.{Instr as Instruction};
 ghost use Rattle.rv_form.specs.Instruction.{IsValid};
@@ -142,6 +142,7 @@ pub fn store(regions: &[Region], bytes: &mut [u8], width: Width, a: u64, value: 
     requires { Laid regions.now bytes.old }
     ensures answer { result ≡ all_flagged regions.now 2 (bytes_of width) a }
     ensures stored { OnTrue result (memory_of regions.now bytes.new ≡ store_in (bytes_of width) (memory_of regions.now bytes.old) a value) }
+    ensures refused { result ≡ false → memory_of regions.now bytes.new ≡ memory_of regions.now bytes.old }
     ensures laid { Laid regions.now bytes.new }
     ensures kept { Kept regions.now bytes.old bytes.new }
 {

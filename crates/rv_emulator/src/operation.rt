@@ -1,5 +1,5 @@
 //! What the instructions compute of words, as `rv_form` says it in `specs/Arithmetic` and `specs/Numbers`.
-ghost use Rattle.std.specs.Prelude.{◌≡◌, ◌<◌, ◌*◌, ◌^◌, ◌*ℤ◌, ◌/◌, ◌%◌, ℤ, pos};
+ghost use Rattle.std.specs.Prelude.{◌≡◌, ◌<◌, ◌≤◌, ◌*◌, ◌^◌, ◌*ℤ◌, ◌/◌, ◌%◌, ℤ, pos};
 ghost use Rattle.rv_form.specs.Numbers.{add as sum_of, extended as extended_of, floor, word as word_of};
 ghost use Rattle.rv_form.specs.Machine.{even as even_of};
 ghost use Rattle.rv_form.specs.Arithmetic.{integer, high_product};
@@ -53,14 +53,14 @@ pub fn even(a: u64) -> u64
 /// A number below `2 * half`, with its sign extended to a word.
 #[inline]
 pub fn extended(half: u64, n: u64) -> u64
-    requires half { half < 2 ^ 63 }
+    requires half { half ≤ 2 ^ 63 }
     requires number { n < 2 * half }
     ensures { result ≡ extended_of half n }
 {
     if n < half {
         n
     } else {
-        n.wrapping_sub(2 * half)
+        n.wrapping_sub(half).wrapping_sub(half)
     }
 }
 
@@ -116,21 +116,21 @@ pub fn shift_signed(a: u64, amount: u64) -> u64
 }
 
 #[inline]
-pub fn shift_left_narrow(a: u64, amount: u64) -> u64
+pub fn sllw(a: u64, amount: u64) -> u64
     ensures { result ≡ arithmetic.shift_left_narrow a amount }
 {
     narrow(shift_left(a, amount % 32))
 }
 
 #[inline]
-pub fn shift_right_narrow(a: u64, amount: u64) -> u64
+pub fn srlw(a: u64, amount: u64) -> u64
     ensures { result ≡ arithmetic.shift_right_narrow a amount }
 {
     narrow(shift_right(low_half(a), amount % 32))
 }
 
 #[inline]
-pub fn shift_signed_narrow(a: u64, amount: u64) -> u64
+pub fn sraw(a: u64, amount: u64) -> u64
     ensures { result ≡ arithmetic.shift_signed_narrow a amount }
 {
     narrow(shift_signed(narrow(a), amount % 32))
@@ -169,7 +169,7 @@ fn high_half(product: i128) -> u64
 }
 
 #[inline]
-pub fn divide(a: u64, b: u64) -> u64
+pub fn div(a: u64, b: u64) -> u64
     ensures { result ≡ arithmetic.divide a b }
 {
     if b == 0 {
@@ -182,7 +182,7 @@ pub fn divide(a: u64, b: u64) -> u64
 }
 
 #[inline]
-pub fn remainder(a: u64, b: u64) -> u64
+pub fn rem(a: u64, b: u64) -> u64
     ensures { result ≡ arithmetic.remainder a b }
 {
     if b == 0 {
@@ -195,15 +195,44 @@ pub fn remainder(a: u64, b: u64) -> u64
 }
 
 #[inline]
-pub fn divide_unsigned(a: u64, b: u64) -> u64
+pub fn divu(a: u64, b: u64) -> u64
     ensures { result ≡ arithmetic.divide_unsigned a b }
 {
     if b == 0 { u64::MAX } else { a / b }
 }
 
 #[inline]
-pub fn remainder_unsigned(a: u64, b: u64) -> u64
+pub fn remu(a: u64, b: u64) -> u64
     ensures { result ≡ arithmetic.remainder_unsigned a b }
 {
     if b == 0 { a } else { a % b }
+}
+
+/// The quotients and remainders of the low 32 bits.
+#[inline]
+pub fn divw(a: u64, b: u64) -> u64
+    ensures { result ≡ arithmetic.narrow (arithmetic.divide (arithmetic.narrow a) (arithmetic.narrow b)) }
+{
+    narrow(div(narrow(a), narrow(b)))
+}
+
+#[inline]
+pub fn divuw(a: u64, b: u64) -> u64
+    ensures { result ≡ arithmetic.narrow (arithmetic.divide_unsigned (arithmetic.low_half a) (arithmetic.low_half b)) }
+{
+    narrow(divu(low_half(a), low_half(b)))
+}
+
+#[inline]
+pub fn remw(a: u64, b: u64) -> u64
+    ensures { result ≡ arithmetic.narrow (arithmetic.remainder (arithmetic.narrow a) (arithmetic.narrow b)) }
+{
+    narrow(rem(narrow(a), narrow(b)))
+}
+
+#[inline]
+pub fn remuw(a: u64, b: u64) -> u64
+    ensures { result ≡ arithmetic.narrow (arithmetic.remainder_unsigned (arithmetic.low_half a) (arithmetic.low_half b)) }
+{
+    narrow(remu(low_half(a), low_half(b)))
 }

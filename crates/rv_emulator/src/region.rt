@@ -1,6 +1,6 @@
 //! The regions of memory: which bytes there are, where they stand, and how they may be used.
 ghost use Rattle.std.specs.Prelude.{◌≡◌, ◌<◌, ◌≤◌, ◌^◌};
-ghost use Rattle.rv_emulator.specs.Memory.{AreLow, IsPlaceOf, bytes_of, has_flag, total_of};
+ghost use Rattle.rv_emulator.specs.Memory.{AreLow, IsPlaceOf, bytes_of, half_of, has_flag, total_of};
 
 /// The flags of a segment: which uses of its bytes it allows.
 pub const EXECUTES: u32 = 1;
@@ -36,6 +36,19 @@ impl Width {
             Width::Half => 2,
             Width::Word => 4,
             Width::Double => 8,
+        }
+    }
+
+    /// From here on the numbers of this width are negative, as signed ones.
+    #[inline]
+    pub fn half(self) -> u64
+        ensures { result ≡ half_of self }
+    {
+        match self {
+            Width::Byte => 0x80,
+            Width::Half => 0x8000,
+            Width::Word => 0x8000_0000,
+            Width::Double => 0x8000_0000_0000_0000,
         }
     }
 }
