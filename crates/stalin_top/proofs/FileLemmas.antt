@@ -1,5 +1,5 @@
 -- Reading and writing whole files piece by piece: what the pieces come to.
-use Rattle.std.proofs.Common.{ℕ, ◌+◌, ◌-◌, ◌<◌, ◌≤◌, ◌^◌, ◌≡◌, refl, sym, ap, subst, ◌∙◌, List, [], ◌++◌, length, min, take, drop, Option, Some, None, inr, arith, append_assoc, length-append, length-drop, length-take}
+use Rattle.std.proofs.Common.{ℕ, ◌+◌, ◌-◌, ◌<◌, ◌≤◌, ◌≡◌, refl, sym, ap, subst, ◌∙◌, List, [], ◌++◌, length, min, take, drop, Option, Some, None, inr, arith, append_assoc, length-append, length-drop, length-take}
 use Rattle.std.proofs.lemmas.List.{append-nil, take-take, take_all, drop-drop}
 use Rattle.std.proofs.Math.Seq.{take-add}
 use Rattle.std.specs.Option.{option_map}
@@ -30,18 +30,18 @@ next_then (Some files) (Some later) text more before middle now same one two =
     one ∙ (ap (λ t. text ++ t) two ∙ sym (append_assoc text more now))
 
 -- what was read up to the end is the whole
-pub reads_whole : (files later : Option Files) (text before left : List ℕ) → SameFiles files later
-    → AreNext files text before left → AreAll later left → length text ≤ 2 ^ 20
-    → ReadsRest files before (reads.Whole text)
-reads_whole None later text before left same next all size = size
-reads_whole (Some files) None text before left same next all size = absurd same
-reads_whole (Some files) (Some later) text before left same next all size =
+pub reads_whole : (most : ℕ) (files later : Option Files) (text before left : List ℕ) → SameFiles files later
+    → AreNext files text before left → AreAll later left → length text ≤ most
+    → ReadsRest most files before (reads.Whole text)
+reads_whole most None later text before left same next all size = size
+reads_whole most (Some files) None text before left same next all size = absurd same
+reads_whole most (Some files) (Some later) text before left same next all size =
     (ap Some (next ∙ (ap (λ t. text ++ t) all ∙ append-nil text)), size)
 
-pub reads_too_long : (files : Option Files) (text before left : List ℕ) → AreNext files text before left
-    → 2 ^ 20 < length text → ReadsRest files before reads.TooLong
-reads_too_long None text before left next size = tt
-reads_too_long (Some files) text before left next size =
+pub reads_too_long : (most : ℕ) (files : Option Files) (text before left : List ℕ) → AreNext files text before left
+    → most < length text → ReadsRest most files before reads.TooLong
+reads_too_long most None text before left next size = tt
+reads_too_long most (Some files) text before left next size =
     let e : length before ≡ length text + length left = ap length next ∙ length-append text left in
     (before, refl, omega arith)
 

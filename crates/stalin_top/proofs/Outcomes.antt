@@ -25,14 +25,14 @@ compiled text chars bytes one other read one_is other_is made law =
       runs = subst (λ b. Agrees chars b) (sym file) (subst (λ c. Agrees c (first_file c)) one_is law);
     }
 
-pub too_large : (before now : Option Files) (input output : List ℕ) → ReadsFile before input reads.TooLong
+pub too_large : (before now : Option Files) (input output : List ℕ) → ReadsFile (2 ^ 20) before input reads.TooLong
     → SameFiles before now → WhereTold (Outcome input output (TooLarge source_limit)) before now
 too_large None now input output read same = tt
 too_large (Some before) None input output read same = absurd same
 too_large (Some before) (Some now) input output read same = (read.0, read.1, read.2, refl, same)
 
 pub not_yet : (before now : Option Files) (input output source text : List ℕ) (pos : Pos)
-    → ReadsFile before input (reads.Whole source) → SameFiles before now → text ≡ source → IsNotYet text pos
+    → ReadsFile (2 ^ 20) before input (reads.Whole source) → SameFiles before now → text ≡ source → IsNotYet text pos
     → WhereTold (Outcome input output (NotYet pos)) before now
 not_yet None now input output source text pos read same text_is fault = tt
 not_yet (Some before) None input output source text pos read same text_is fault = absurd same
@@ -45,7 +45,7 @@ not_yet (Some before) (Some now) input output source text pos read same text_is 
 
 -- what was written to OUTPUT is the image of what INPUT held
 pub done : (before middle now : Option Files) (input output source text image bytes : List ℕ)
-    → ReadsFile before input (reads.Whole source) → SameFiles before middle → text ≡ source
+    → ReadsFile (2 ^ 20) before input (reads.Whole source) → SameFiles before middle → text ≡ source
     → IsCompiled text image → bytes ≡ image → WritesFile output bytes writes.Done middle now
     → WhereTold (Outcome input output Done) before now
 done None middle now input output source text image bytes read same text_is made bytes_are written = tt
@@ -62,7 +62,7 @@ done (Some before) (Some middle) (Some now) input output source text image bytes
 )
 
 pub faulted : (before middle now : Option Files) (input output source text image bytes : List ℕ)
-    → ReadsFile before input (reads.Whole source) → SameFiles before middle → text ≡ source
+    → ReadsFile (2 ^ 20) before input (reads.Whole source) → SameFiles before middle → text ≡ source
     → IsCompiled text image → bytes ≡ image → WritesFile output bytes writes.Fault middle now
     → WhereTold (Outcome input output FileFault) before now
 faulted None middle now input output source text image bytes read same text_is made bytes_are written = tt

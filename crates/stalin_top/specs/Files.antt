@@ -1,5 +1,5 @@
 -- What reading and writing whole files does, by the answer.
-use Rattle.std.specs.Prelude.{ℕ, ◌≡◌, ◌<◌, ◌≤◌, ◌^◌, ◌⊎◌, List, ◌∷◌, length, take, Option, Some, None}
+use Rattle.std.specs.Prelude.{ℕ, ◌≡◌, ◌<◌, ◌≤◌, ◌⊎◌, List, ◌∷◌, length, take, Option, Some, None}
 use Rattle.stalin_outside.specs.declared.shelf.Ask.{Ask}
 use Rattle.stalin_outside.specs.declared.shelf.Ask.TheVariants.{ToRead, ToWrite}
 use Rattle.stalin_outside.specs.Shelf.{Files, WhereTold, SameFiles, ChangesOnly, Grows}
@@ -10,28 +10,28 @@ use Rattle.stalin_top.specs.declared.files.Writing.TheVariants as writes
 
 -- Reading
 
--- what was read of a file with this content: the whole, of at most 2^20 bytes, or that it has more
-abbrev pub HasRead : (content : Option (List ℕ)) → Reading → Type 0
-HasRead content (reads.Whole bytes) = (content ≡ Some bytes) × (length bytes ≤ 2 ^ 20)
-HasRead content reads.TooLong = (text : List ℕ) × (content ≡ Some text) × (2 ^ 20 < length text)
-HasRead content reads.Fault = Unit {0}
-HasRead content reads.NoMemory = Unit {0}
+-- what was read of a file with this content: the whole, of so many bytes at most, or that it has more
+abbrev pub HasRead : (most : ℕ) → (content : Option (List ℕ)) → Reading → Type 0
+HasRead most content (reads.Whole bytes) = (content ≡ Some bytes) × (length bytes ≤ most)
+HasRead most content reads.TooLong = (text : List ℕ) × (content ≡ Some text) × (most < length text)
+HasRead most content reads.Fault = Unit {0}
+HasRead most content reads.NoMemory = Unit {0}
 
 -- what is known of it where the shelf does not tell its files
-abbrev pub IsWithin : Reading → Type 0
-IsWithin (reads.Whole bytes) = length bytes ≤ 2 ^ 20
-IsWithin reads.TooLong = Unit {0}
-IsWithin reads.Fault = Unit {0}
-IsWithin reads.NoMemory = Unit {0}
+abbrev pub IsWithin : (most : ℕ) → Reading → Type 0
+IsWithin most (reads.Whole bytes) = length bytes ≤ most
+IsWithin most reads.TooLong = Unit {0}
+IsWithin most reads.Fault = Unit {0}
+IsWithin most reads.NoMemory = Unit {0}
 
-abbrev pub ReadsFile : Option Files → (name : List ℕ) → Reading → Type 0
-ReadsFile None name answer = IsWithin answer
-ReadsFile (Some files) name answer = HasRead (files name) answer
+abbrev pub ReadsFile : (most : ℕ) → Option Files → (name : List ℕ) → Reading → Type 0
+ReadsFile most None name answer = IsWithin most answer
+ReadsFile most (Some files) name answer = HasRead most (files name) answer
 
 -- the same of what is left of a file that is begun
-abbrev pub ReadsRest : Option Files → (left : List ℕ) → Reading → Type 0
-ReadsRest None left answer = IsWithin answer
-ReadsRest (Some files) left answer = HasRead (Some left) answer
+abbrev pub ReadsRest : (most : ℕ) → Option Files → (left : List ℕ) → Reading → Type 0
+ReadsRest most None left answer = IsWithin most answer
+ReadsRest most (Some files) left answer = HasRead most (Some left) answer
 
 -- the file was asked for, but where memory may have been wanted before
 abbrev pub AskedToRead : (name : List ℕ) → Reading → (before now : List Ask) → Type 0

@@ -5,16 +5,19 @@ ghost use Rattle.first_form.specs.Form.{HasFault};
 ghost use Rattle.stalin_top.specs.Headline.{IsCompiled, Outcome, IsAsked, IsNoUsage};
 
 use crate::Answer;
-use crate::files::{self, Reading, Writing, read_source, write_file};
+use crate::files::{Reading, Writing, read_file, write_file};
 use first_form::FirstErr;
 use scheme_base::{Limit, LimitKind};
 use stalin_outside::Shelf;
 use std::alloc::Global;
 
+/// The most bytes that a source may have.
+const MOST: usize = 0x10_0000;
+
 /// The answer to a source of more bytes than there may be.
 const TOO_LARGE: Answer = Answer::TooLarge(Limit {
     which: LimitKind::Source,
-    count: files::MOST as u64 + 1,
+    count: MOST as u64 + 1,
 });
 
 /// Writes the image of the program in the file `input` to the file `output`.
@@ -24,7 +27,7 @@ pub(crate) fn compile<H: Shelf>(alloc: Global, shelf: &mut H, input: &str, outpu
     ensures cause { HasCause (H.faults shelf.old) (H.faults shelf.new) (result ≡ Answer.FileFault) }
     ensures command { IsNoUsage result }
 {
-    let source = match read_source(alloc, shelf, input) {
+    let source = match read_file(alloc, shelf, input, MOST) {
         Reading::Whole(source) => source,
         Reading::TooLong => return TOO_LARGE,
         Reading::Fault => return Answer::FileFault,

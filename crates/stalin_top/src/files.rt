@@ -7,50 +7,49 @@ use scheme_base::Bytes;
 use stalin_outside::{Begun, Got, Kind, Shelf, Took};
 use std::alloc::Global;
 
-/// The most bytes that a source may have.
-pub(crate) const MOST: usize = 0x10_0000;
-
 /// How many bytes a read or a write asks for at a time, at most.
 const PIECE: usize = 4096;
 
-/// What reading a source gives.
+/// What reading a file gives.
 #[derive(Drop)]
 pub(crate) enum Reading {
     /// All its bytes.
     Whole(Bytes),
-    /// It has more than `MOST` bytes.
+    /// It has more bytes than it may have.
     TooLong,
     /// A call of the shelf failed.
     Fault,
     NoMemory,
 }
 
-/// Reads the whole of a file, unless it is too long: it reads `MOST` + 1 bytes of one at most.
-pub(crate) fn read_source<H: Shelf>(alloc: Global, shelf: &mut H, name: &str) -> Reading
-    ensures source { ReadsFile (H.files shelf.old) name.now result }
+/// Reads the whole of a file, unless it has more than `most` bytes: it reads `most` + 1 of them at most.
+pub(crate) fn read_file<H: Shelf>(alloc: Global, shelf: &mut H, name: &str, most: usize) -> Reading
+    requires room { most < 2 ^ 32 }
+    ensures content { ReadsFile most (H.files shelf.old) name.now result }
     ensures files { SameFiles (H.files shelf.old) (H.files shelf.new) }
     ensures asks { AskedToRead name.now result (H.asks shelf.old) (H.asks shelf.new) }
     ensures cause { HasCause (H.faults shelf.old) (H.faults shelf.new) (result ≡ Reading.Fault) }
 {
     match shelf.begin_read(name) {
-        Begun::Ready => read_rest(alloc, shelf),
+        Begun::Ready => read_rest(alloc, shelf, most),
         Begun::Failed => Reading::Fault,
         Begun::NoMemory => Reading::NoMemory,
     }
 }
 
 /// Reads what is left of the file that is begun for reading.
-fn read_rest<H: Shelf>(alloc: Global, shelf: &mut H) -> Reading
+fn read_rest<H: Shelf>(alloc: Global, shelf: &mut H, most: usize) -> Reading
     requires reading { H.begun shelf.old ≡ Kind.ForReading }
-    ensures source { ReadsRest (H.files shelf.old) (H.left shelf.old) result }
+    requires room { most < 2 ^ 32 }
+    ensures content { ReadsRest most (H.files shelf.old) (H.left shelf.old) result }
     ensures files { SameFiles (H.files shelf.old) (H.files shelf.new) }
     ensures asks { H.asks shelf.new ≡ H.asks shelf.old }
     ensures cause { HasCause (H.faults shelf.old) (H.faults shelf.new) (result ≡ Reading.Fault) }
 {
     let mut text = Bytes::new(alloc);
     let mut buf = [0u8; PIECE];
-    'reads: while text.len() <= MOST {
-        let room = (MOST + 1 - text.len()).min(PIECE);
+    'reads: while text.len() <= most {
+        let room = (most + 1 - text.len()).min(PIECE);
         match shelf.read(&mut buf[..room]) {
             Got::Bytes(count) => {
                 if text.extend_from_slice(&buf[..count]).is_err() {

@@ -1,4 +1,4 @@
-use Rattle.std.proofs.Common.{◌≡◌, ◌≤◌, ◌+◌, ◌-◌, ◌^◌, length}
+use Rattle.std.proofs.Common.{◌≡◌, ◌≤◌, ◌+◌, ◌-◌, length}
 use Rattle.stalin_outside.specs.declared.shelf.Kind.TheVariants.{ForReading}
 use Rattle.stalin_outside.specs.Shelf.{SameFiles, AreNext}
 use Rattle.stalin_top.proofs.files.read_rest.Given as goal
@@ -12,8 +12,8 @@ invariant-reads g l =
       begun : g.H.Shelf.begun l.shelf ≡ ForReading;
       asks : g.H.Shelf.asks l.shelf ≡ g.H.Shelf.asks l.initial.shelf;
       later : g.H.Shelf.faults l.initial.shelf ≤ g.H.Shelf.faults l.shelf;
-      size : length l.text ≤ 2 ^ 20 + 1;
+      size : length l.text ≤ l.fn.most + 1;
     }
 
 abbrev pub decreases-reads : goal.decreases-reads
-decreases-reads g l = 2 ^ 20 + 1 - length l.text
+decreases-reads g l = l.fn.most + 1 - length l.text
