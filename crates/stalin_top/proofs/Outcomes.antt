@@ -7,7 +7,7 @@ use Rattle.first_form.proofs.Answer.{apart, one_place}
 use Rattle.first_image.specs.First.{first_file}
 use Rattle.first_image.specs.Agrees.{Agrees}
 use Rattle.stalin_top.specs.declared.answer.Answer.{Answer}
-use Rattle.stalin_top.specs.declared.answer.Answer.TheVariants.{Done, Usage, TooLarge, FileFault, NotYet, NoMemory}
+use Rattle.stalin_top.specs.declared.answer.Answer.TheVariants.{Done, Usage, TooLarge, FileFault, NotYet, BadImage, Spent, Trapped, Image, NoMemory}
 use Rattle.stalin_top.specs.declared.files.Reading.TheVariants as reads
 use Rattle.stalin_top.specs.declared.files.Writing.TheVariants as writes
 use Rattle.stalin_top.specs.Files.{ReadsFile, WritesFile, HoldsFront}
@@ -118,6 +118,10 @@ causes_of before now input output (TooLarge limit) outcome =
       refused = λ text pos source fault. absurd (not_long _ text outcome.0 source.held source.short outcome.1 outcome.2);
       limited = λ text held long. inl (ap TooLarge outcome.3);
     }
+causes_of before now input output (BadImage err) outcome = absurd outcome
+causes_of before now input output (Spent steps) outcome = absurd outcome
+causes_of before now input output (Trapped kind pc) outcome = absurd outcome
+causes_of before now input output (Image status) outcome = absurd outcome
 causes_of before now input output (NotYet pos) outcome =
     record {
       complete =

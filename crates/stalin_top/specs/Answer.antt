@@ -1,8 +1,10 @@
 -- The status of each answer, and the text that the command writes to the error channel.
 use Rattle.std.specs.Prelude.{ℕ, List, [], ◌∷◌, ◌++◌, codes, decimal}
 use Rattle.scheme_base.specs.Limit.{name_of}
+use Rattle.elf_write.specs.declared.error.ElfErr.{ElfErr}
+use Rattle.elf_write.specs.declared.error.ElfErr.TheVariants as breaks
 use Rattle.stalin_top.specs.declared.answer.Answer.{Answer}
-use Rattle.stalin_top.specs.declared.answer.Answer.TheVariants.{Done, Usage, TooLarge, FileFault, NotYet, NoMemory}
+use Rattle.stalin_top.specs.declared.answer.Answer.TheVariants.{Done, Usage, TooLarge, FileFault, NotYet, BadImage, Spent, Trapped, Image, NoMemory}
 
 abbrev pub status_of : Answer → ℕ
 status_of Done = 0
@@ -10,6 +12,10 @@ status_of (Usage word) = 64
 status_of (TooLarge limit) = 66
 status_of FileFault = 74
 status_of (NotYet pos) = 69
+status_of (BadImage err) = 76
+status_of (Spent steps) = 75
+status_of (Trapped kind pc) = 77
+status_of (Image status) = status
 status_of NoMemory = 71
 
 -- each text ends with a line end
@@ -19,4 +25,13 @@ text_of (Usage word) = codes "usage: word " ++ (decimal word ++ 10 ∷ [])
 text_of (TooLarge limit) = codes "too large: " ++ (name_of limit.which ++ (32 ∷ [] ++ (decimal limit.count ++ 10 ∷ [])))
 text_of FileFault = codes "file fault" ++ 10 ∷ []
 text_of (NotYet pos) = codes "not yet at " ++ (decimal pos.line ++ (58 ∷ [] ++ (decimal pos.col ++ 10 ∷ [])))
+text_of (BadImage breaks.Short) = codes "bad image: 1" ++ 10 ∷ []
+text_of (BadImage breaks.Magic) = codes "bad image: 2" ++ 10 ∷ []
+text_of (BadImage breaks.Kind) = codes "bad image: 3" ++ 10 ∷ []
+text_of (BadImage (breaks.Segment index)) = codes "bad image: 4 " ++ (decimal index ++ 10 ∷ [])
+text_of (BadImage breaks.Entry) = codes "bad image: 5" ++ 10 ∷ []
+text_of (BadImage breaks.NoMemory) = codes "no memory" ++ 10 ∷ []
+text_of (Spent steps) = codes "spent " ++ (decimal steps ++ 10 ∷ [])
+text_of (Trapped kind pc) = codes "trapped " ++ (decimal kind ++ (codes " at " ++ (decimal pc ++ 10 ∷ [])))
+text_of (Image status) = []
 text_of NoMemory = codes "no memory" ++ 10 ∷ []

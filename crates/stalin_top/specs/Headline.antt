@@ -17,7 +17,7 @@ use Rattle.first_image.specs.Agrees.{Agrees}
 use Rattle.stalin_top.specs.Command.{broken_word}
 use Rattle.stalin_top.specs.Files.{HoldsFront}
 use Rattle.stalin_top.specs.declared.answer.Answer.{Answer}
-use Rattle.stalin_top.specs.declared.answer.Answer.TheVariants.{Done, Usage, TooLarge, FileFault, NotYet, NoMemory}
+use Rattle.stalin_top.specs.declared.answer.Answer.TheVariants.{Done, Usage, TooLarge, FileFault, NotYet, BadImage, Spent, Trapped, Image, NoMemory}
 
 -- The headline. These bytes are the file of the program that the text is. The image which they are read as
 -- shows, run under any environment, exactly the program's output prefixes, and ends exactly where and as
@@ -56,6 +56,10 @@ Outcome input output FileFault before now =
     ⊎ ((text : List ℕ) × (bytes : List ℕ) × HasSource before input text × IsCompiled text bytes
     × HoldsFront output bytes before now)
 Outcome input output NoMemory before now = IsUnchanged before now
+Outcome input output (BadImage err) before now = ⊥
+Outcome input output (Spent steps) before now = ⊥
+Outcome input output (Trapped kind pc) before now = ⊥
+Outcome input output (Image status) before now = ⊥
 
 -- an answer is this one, but where a call of the shelf failed or memory was wanted
 abbrev pub Yields : (expected answer : Answer) → Type 0
@@ -77,6 +81,7 @@ IsAsked input output (NotYet pos) before now = now ≡ ToRead input ∷ before
 IsAsked input output FileFault before now =
     (now ≡ ToRead input ∷ before) ⊎ (now ≡ ToWrite output ∷ ToRead input ∷ before)
 IsAsked input output NoMemory before now = (now ≡ before) ⊎ (now ≡ ToRead input ∷ before)
+IsAsked input output answer before now = ⊥
 
 -- of a command `compile INPUT OUTPUT` of which no word is broken this is so
 abbrev pub OnCompile : (words : List (List ℕ)) → ((input output : List ℕ) → Type 0) → Type 0

@@ -4,6 +4,7 @@ ghost use Rattle.stalin_top.specs.Answer.{text_of};
 ghost use Rattle.stalin_top.specs.Sending.{Sends, joined};
 
 use crate::Answer;
+use elf_write::ElfErr;
 use itoa::Buffer;
 use stalin_outside::{Console, Out};
 
@@ -35,7 +36,41 @@ pub(crate) fn tell<C: Console>(console: &mut C, answer: &Answer) -> bool
             let col = other.format(pos.col).as_bytes();
             send_all(console, &[b"not yet at ", line, b":", col, b"\n"])
         }
+        Answer::BadImage(err) => tell_break(console, err),
+        Answer::Spent { steps } => {
+            let steps = one.format(*steps).as_bytes();
+            send_all(console, &[b"spent ", steps, b"\n"])
+        }
+        Answer::Trapped { kind, pc } => {
+            let kind = one.format(*kind).as_bytes();
+            let pc = other.format(*pc).as_bytes();
+            send_all(console, &[b"trapped ", kind, b" at ", pc, b"\n"])
+        }
+        Answer::Image { .. } => true,
         Answer::NoMemory => send(console, b"no memory\n"),
+    }
+}
+
+/// Writes which check the bytes of an image break to the error channel, up to the first call that fails.
+fn tell_break<C: Console>(console: &mut C, err: &ElfErr) -> bool
+    ensures errors { Sends (C.errors console.old) (C.errors console.new) (text_of (Answer.BadImage err.now)) result }
+    ensures input { C.input console.new ≡ C.input console.old }
+    ensures output { C.output console.new ≡ C.output console.old }
+    ensures answers { C.answers console.new ≡ C.answers console.old }
+    ensures faults { C.faults console.new ≡ C.faults console.old }
+    ensures cause { HasCause (C.err_faults console.old) (C.err_faults console.new) (result ≡ false) }
+{
+    let mut buffer = Buffer::new();
+    match err {
+        ElfErr::Short => send(console, b"bad image: 1\n"),
+        ElfErr::Magic => send(console, b"bad image: 2\n"),
+        ElfErr::Kind => send(console, b"bad image: 3\n"),
+        ElfErr::Segment { index } => {
+            let index = buffer.format(*index).as_bytes();
+            send_all(console, &[b"bad image: 4 ", index, b"\n"])
+        }
+        ElfErr::Entry => send(console, b"bad image: 5\n"),
+        ElfErr::NoMemory => send(console, b"no memory\n"),
     }
 }
 

@@ -1,0 +1,72 @@
+ghost use Rattle.std.specs.Prelude.{◌≡◌, ◌≤◌, ◌^◌, length};
+ghost use Rattle.stalin_outside.specs.Causes.{HasCause};
+ghost use Rattle.stalin_outside.specs.Shelf.{SameFiles};
+ghost use Rattle.rv_emulator.specs.Passing.{told};
+ghost use Rattle.stalin_top.specs.Emulation.{Emulation, IsAskedForImage, IsRun};
+ghost use Rattle.stalin_top.specs.Headline.{IsNoUsage};
+
+use crate::Answer;
+use crate::files::{Reading, read_file};
+use elf_write::ElfErr;
+use rv_emulator::{RunEnd, load};
+use scheme_base::{Limit, LimitKind};
+use stalin_outside::{Console, Shelf};
+use std::alloc::Global;
+
+/// The most bytes that an image file may have.
+const MOST: usize = 0x8000_0000;
+
+/// The answer to an image file of more bytes than there may be.
+const TOO_LARGE: Answer = Answer::TooLarge(Limit {
+    which: LimitKind::File,
+    count: MOST as u64 + 1,
+});
+
+/// Emulates the image in the file `image` on the console, for so many steps at most.
+pub(crate) fn emulate<H: Shelf, C: Console>(
+    alloc: Global,
+    shelf: &mut H,
+    console: &mut C,
+    image: &str,
+    steps: u64,
+) -> Answer
+    ensures files { SameFiles (H.files shelf.old) (H.files shelf.new) }
+    ensures asks { IsAskedForImage image.now result (H.asks shelf.old) (H.asks shelf.new) }
+    ensures cause { HasCause (H.faults shelf.old) (H.faults shelf.new) (result ≡ Answer.FileFault) }
+    ensures command { IsNoUsage result }
+    ensures run { Emulation (H.files shelf.old) image.now steps result
+        (told (C.input console.old) (C.output console.old) (C.errors console.old) (C.answers console.old)
+        (C.err_answers console.old) (C.faults console.old) (C.err_faults console.old))
+        (told (C.input console.new) (C.output console.new) (C.errors console.new) (C.answers console.new)
+        (C.err_answers console.new) (C.faults console.new) (C.err_faults console.new)) }
+{
+    match read_file(alloc, shelf, image, MOST) {
+        Reading::Whole(file) => run(alloc, console, file.as_slice(), steps),
+        Reading::TooLong => TOO_LARGE,
+        Reading::Fault => Answer::FileFault,
+        Reading::NoMemory => Answer::NoMemory,
+    }
+}
+
+/// Runs the image that the bytes of a file are.
+fn run<C: Console>(alloc: Global, console: &mut C, bytes: &[u8], steps: u64) -> Answer
+    ensures { IsRun bytes.now steps result
+        (told (C.input console.old) (C.output console.old) (C.errors console.old) (C.answers console.old)
+        (C.err_answers console.old) (C.faults console.old) (C.err_faults console.old))
+        (told (C.input console.new) (C.output console.new) (C.errors console.new) (C.answers console.new)
+        (C.err_answers console.new) (C.faults console.new) (C.err_faults console.new)) }
+{
+    let image = match elf_write::read(alloc, bytes) {
+        Ok(image) => image,
+        Err(ElfErr::NoMemory) => return Answer::NoMemory,
+        Err(err) => return Answer::BadImage(err),
+    };
+    let Ok(mut machine) = load(alloc, &image) else {
+        return Answer::NoMemory;
+    };
+    match machine.run(steps, console) {
+        RunEnd::Ended { status } => Answer::Image { status },
+        RunEnd::Spent { steps } => Answer::Spent { steps },
+        RunEnd::Trapped { kind, pc } => Answer::Trapped { kind, pc },
+    }
+}
