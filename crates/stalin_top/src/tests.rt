@@ -1,5 +1,7 @@
 //! Worked examples of whole commands, over a shelf and a console in memory.
 
+mod emulation;
+
 use crate::{stalin, status};
 use scheme_base::{Bytes, Words};
 use stalin_outside::{MemConsole, MemShelf, OpenGate};
@@ -19,13 +21,16 @@ struct Report {
     status: u8,
     /// What it wrote to the error channel.
     text: Bytes,
+    /// What it wrote to the output.
+    output: Bytes,
     /// The file `out`, which held `old` before.
     out: Bytes,
-    /// The status of the same command on what it report.
+    /// The status of the same command on what it left behind, and what that wrote to the error channel.
     again: u8,
+    text_again: Bytes,
 }
 
-/// Runs a command twice on a shelf with the source `in`, where these calls fail.
+/// Runs a command twice on a shelf with the source or image `in`, where these calls of the shelf fail.
 fn report_of<R: Threads + Sync>(
     rt: &R,
     alloc: Global,
@@ -38,14 +43,16 @@ fn report_of<R: Threads + Sync>(
     shelf.add("out", b"old", ROOM)?;
     shelf.fail_at(failing)?;
     let words = words_of(alloc, texts)?;
-    let (status, text) = run(rt, alloc, &words, &mut shelf)?;
+    let (status, text, output) = run(rt, alloc, &words, &mut shelf, &[])?;
     let out = Bytes::from_slice(alloc, shelf.file("out").unwrap_or(&[]))?;
-    let (again, _text) = run(rt, alloc, &words, &mut shelf)?;
+    let (again, text_again, _output) = run(rt, alloc, &words, &mut shelf, &[])?;
     Ok(Report {
         status,
         text,
+        output,
         out,
         again,
+        text_again,
     })
 }
 
@@ -57,21 +64,25 @@ fn words_of(alloc: Global, texts: &[&str]) -> Result<Words, AllocError> {
     Ok(words)
 }
 
+/// Runs a command where these calls of the console's input and output fail: its status, and what it wrote to
+/// the error channel and to the output.
 fn run<R: Threads + Sync>(
     rt: &R,
     alloc: Global,
     words: &Words,
     shelf: &mut MemShelf,
-) -> Result<(u8, Bytes), AllocError> {
-    let mut console = MemConsole::new(alloc, &[], LINE, &[])?;
+    failing: &[u64],
+) -> Result<(u8, Bytes, Bytes), AllocError> {
+    let mut console = MemConsole::new(alloc, &[], LINE, failing)?;
     let answer = stalin(rt, alloc, words, shelf, &mut console, &OpenGate);
     let text = Bytes::from_slice(alloc, console.errors())?;
-    Ok((status(&answer), text))
+    let output = Bytes::from_slice(alloc, console.output())?;
+    Ok((status(&answer), text, output))
 }
 
 #[test]
 fn words_are_read_from_the_left(rt: HostRuntime) -> Result<(), Fail> {
-    let rows: [(&[&str], &str); 9] = [
+    let rows: [(&[&str], &str); 20] = [
         (&[], "usage: word 1\n"),
         (&[""], "usage: word 1\n"),
         (&["frob", "a", "b"], "usage: word 1\n"),
@@ -81,6 +92,23 @@ fn words_are_read_from_the_left(rt: HostRuntime) -> Result<(), Fail> {
         (&["compile", "--heap", "out"], "usage: word 2\n"),
         (&["compile", "in", "--workers"], "usage: word 3\n"),
         (&["compile", "in", "out", "more"], "usage: word 4\n"),
+        (&["emulate"], "usage: word 2\n"),
+        (&["emulate", "in", "more"], "usage: word 3\n"),
+        (&["emulate", "in", "--heap", "5"], "usage: word 3\n"),
+        (&["emulate", "in", "--steps"], "usage: word 4\n"),
+        (&["emulate", "--steps", "5"], "usage: word 4\n"),
+        (&["emulate", "in", "--steps", "0"], "usage: word 4\n"),
+        (&["emulate", "in", "--steps", "007"], "usage: word 4\n"),
+        (&["emulate", "in", "--steps", "+7"], "usage: word 4\n"),
+        (
+            &["emulate", "--steps", "1000000000000000001", "in"],
+            "usage: word 3\n",
+        ),
+        (&["emulate", "--steps", "--steps", "in"], "usage: word 3\n"),
+        (
+            &["emulate", "--steps", "5", "in", "--steps", "5"],
+            "usage: word 5\n",
+        ),
     ];
     for (texts, text) in rows {
         let report = report_of(&rt, rt.alloc(), texts, b"", &[])?;
@@ -124,7 +152,7 @@ fn source_may_be_the_image_too(rt: HostRuntime) -> Result<(), Fail> {
     let mut shelf = MemShelf::new(rt.alloc())?;
     shelf.add("both", source, ROOM)?;
     let words = words_of(rt.alloc(), &["compile", "both", "both"])?;
-    let (status, _text) = run(&rt, rt.alloc(), &words, &mut shelf)?;
+    let (status, _text, _output) = run(&rt, rt.alloc(), &words, &mut shelf, &[])?;
     assert_eq!(rt; status, 0);
     assert_eq!(rt; shelf.file("both").map(|image| image.len()), Some(4221));
     Ok(())
