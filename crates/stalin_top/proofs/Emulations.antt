@@ -1,12 +1,11 @@
 -- What the emulator's run of an image comes to, and what each answer to `emulate` says of the file.
 use Rattle.std.proofs.Common.{ℕ, ◌+◌, ◌<◌, ◌≤◌, ◌^◌, length, arith, ◌≡◌, ◌≢◌, refl, sym, ap, subst, ◌∙◌, List, [], ◌∷◌, Option, Some, None, inl, inr}
-use Rattle.scheme_base.specs.declared.env.Env.{Env}
 use Rattle.scheme_base.specs.Outside.{Calls, no_calls}
 use Rattle.scheme_base.specs.Runs.{after}
 use Rattle.stalin_outside.specs.Shelf.{Files}
 use Rattle.rv_form.specs.declared.image.Image.{Image as Loaded}
 use Rattle.rv_form.specs.declared.image.Segment.{Segment}
-use Rattle.rv_form.specs.Machine.{State, Run, machine_in, world_of, start}
+use Rattle.rv_form.specs.Machine.{State, machine_in, world_of}
 use Rattle.elf_write.specs.declared.error.ElfErr.{ElfErr}
 use Rattle.elf_write.specs.declared.error.ElfErr.TheVariants as breaks
 use Rattle.elf_write.specs.Reading.{HoldsImage, Breaks}
@@ -19,8 +18,7 @@ use Rattle.rv_emulator.specs.declared.next.RunEnd.TheVariants as comes
 use Rattle.rv_emulator.specs.Held.{Held, StartsAs, answer_in, run_in, settled, world_under}
 use Rattle.rv_emulator.specs.Held.{run_of as held_run}
 use Rattle.rv_emulator.specs.Loading.{AreFit, IsLoadable, room_of}
-use Rattle.rv_emulator.specs.Passing.{Told, Plays, Gives, calls_with}
-use Rattle.stalin_top.specs.declared.files.Reading.TheVariants as reads
+use Rattle.rv_emulator.specs.Passing.{Told, Plays, calls_with}
 use Rattle.stalin_top.specs.declared.answer.Answer.{Answer}
 use Rattle.stalin_top.specs.declared.answer.Answer.TheVariants.{Done, Usage, TooLarge, FileFault, NotYet, BadImage, Spent, Trapped, Image, NoMemory}
 use Rattle.stalin_top.specs.Emulation.{run_of, IsAnswerTo, IsEmulated, IsRun, IsFile, Emulation, IsOfRun, ImageCauses}

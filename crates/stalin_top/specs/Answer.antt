@@ -1,7 +1,6 @@
 -- The status of each answer, and the text that the command writes to the error channel.
 use Rattle.std.specs.Prelude.{ℕ, List, [], ◌∷◌, ◌++◌, codes, decimal}
 use Rattle.scheme_base.specs.Limit.{name_of}
-use Rattle.elf_write.specs.declared.error.ElfErr.{ElfErr}
 use Rattle.elf_write.specs.declared.error.ElfErr.TheVariants as breaks
 use Rattle.stalin_top.specs.declared.answer.Answer.{Answer}
 use Rattle.stalin_top.specs.declared.answer.Answer.TheVariants.{Done, Usage, TooLarge, FileFault, NotYet, BadImage, Spent, Trapped, Image, NoMemory}

@@ -5,7 +5,7 @@
 -- where it starts (rv_form), `Call` and `Passes` are the calls of a console and what they do to what it
 -- tells, and `Gives` is that an environment answers so (rv_emulator). For each list of calls there is such
 -- an environment (rv_emulator's law `answers_are_of_an_environment`).
-use Rattle.std.specs.Prelude.{ℕ, ◌≡◌, ◌≢◌, ◌+◌, ◌<◌, ◌≤◌, ◌^◌, ◌⊎◌, List, [], ◌∷◌, length, Option, Some, None}
+use Rattle.std.specs.Prelude.{ℕ, ◌≡◌, ◌≢◌, ◌+◌, ◌<◌, ◌^◌, ◌⊎◌, List, ◌∷◌, length, Option, Some, None}
 use Rattle.scheme_base.specs.declared.env.Env.{Env}
 use Rattle.scheme_base.specs.declared.limit.Limit.{Limit}
 use Rattle.scheme_base.specs.declared.limit.LimitKind.TheVariants.{File}
@@ -27,7 +27,7 @@ use Rattle.stalin_top.specs.Files.{ReadsFile}
 use Rattle.stalin_top.specs.Headline.{Yields}
 use Rattle.stalin_top.specs.declared.files.Reading.TheVariants as reads
 use Rattle.stalin_top.specs.declared.answer.Answer.{Answer}
-use Rattle.stalin_top.specs.declared.answer.Answer.TheVariants.{Done, Usage, TooLarge, FileFault, NotYet, BadImage, Spent, Trapped, Image, NoMemory}
+use Rattle.stalin_top.specs.declared.answer.Answer.TheVariants.{TooLarge, FileFault, BadImage, Spent, Trapped, Image, NoMemory}
 
 -- The machine's run of an image, cut at so many steps. Where the next step is a trap, it has trapped.
 abbrev pub run_of : Loaded → Env → (steps : ℕ) → Run

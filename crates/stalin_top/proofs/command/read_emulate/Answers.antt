@@ -1,4 +1,4 @@
-use Rattle.std.proofs.Common.{◌≡◌, sym, ◌∙◌, true, false}
+use Rattle.std.proofs.Common.{sym}
 use Rattle.stalin_top.proofs.CommandLemmas.{option_first, option_last, no_option_given}
 use Rattle.stalin_top.proofs.command.read_emulate.Goals as goal
 

@@ -1,6 +1,5 @@
-use Rattle.std.proofs.Common.{◌≡◌, sym, Bool, true, false, rules, arith}
+use Rattle.std.proofs.Common.{sym, rules, arith}
 use Rattle.std.proofs.lemmas.Grind.{common_steps}
-use Rattle.std.proofs.lemmas.Slice.Eq.{bytes_eq-Decides}
 use Rattle.stalin_top.proofs.CommandLemmas.{no_steps, yes_steps, parsed}
 use Rattle.stalin_top.proofs.command.steps_of.Goals as goal
 
