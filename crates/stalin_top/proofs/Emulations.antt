@@ -1,5 +1,6 @@
 -- What the emulator's run of an image comes to, and what each answer to `emulate` says of the file.
 use Rattle.std.proofs.Common.{ℕ, ◌+◌, ◌<◌, ◌≤◌, ◌^◌, length, arith, ◌≡◌, ◌≢◌, refl, sym, ap, subst, ◌∙◌, List, [], ◌∷◌, Option, Some, None, inl, inr}
+use Rattle.scheme_base.specs.declared.env.Env.{Env}
 use Rattle.scheme_base.specs.Outside.{Calls, no_calls}
 use Rattle.scheme_base.specs.Runs.{after}
 use Rattle.stalin_outside.specs.Shelf.{Files}
@@ -18,7 +19,8 @@ use Rattle.rv_emulator.specs.declared.next.RunEnd.TheVariants as comes
 use Rattle.rv_emulator.specs.Held.{Held, StartsAs, answer_in, run_in, settled, world_under}
 use Rattle.rv_emulator.specs.Held.{run_of as held_run}
 use Rattle.rv_emulator.specs.Loading.{AreFit, IsLoadable, room_of}
-use Rattle.rv_emulator.specs.Passing.{Told, Plays, calls_with}
+use Rattle.rv_emulator.specs.Answered.{IsOf, Shows}
+use Rattle.rv_emulator.specs.Passing.{Call, Passes, Told, Plays, calls_with}
 use Rattle.stalin_top.specs.declared.answer.Answer.{Answer}
 use Rattle.stalin_top.specs.declared.answer.Answer.TheVariants.{Done, Usage, TooLarge, FileFault, NotYet, BadImage, Spent, Trapped, Image, NoMemory}
 use Rattle.stalin_top.specs.Emulation.{run_of, IsAnswerTo, IsEmulated, IsRun, IsFile, Emulation, IsOfRun, ImageCauses}
@@ -63,13 +65,20 @@ pub emulated :
     → HoldsImage bytes image → StartsAs image from
     → Plays (λ env calls. settled (world_under from env) (after (machine_in (world_under from env)) steps (held_run from calls)))
     (held_run to) before now
-    → end ≡ answer_in steps to.end → IsEmulated bytes steps (answer_to end) before now
-emulated bytes image steps from to before now end held starts plays is =
+    → end ≡ answer_in steps to.end
+    → ((made : List Call) → (env : Env) × IsOf made env)
+    → ((made : List Call) (first last : Told) → Passes made first last → Shows made first last)
+    → IsEmulated bytes steps (answer_to end) before now
+emulated bytes image steps from to before now end held starts plays is environment shows =
+    let some = environment plays.made in
     record {
       image = image;
       held = held;
       made = plays.made;
       passes = plays.passes;
+      env = some.0;
+      of_env = some.1;
+      shows = shows plays.made before now plays.passes;
       runs =
           λ env gives.
           let same : settled (world_under from env) (after (machine_in (world_under from env)) steps (held_run from (no_calls env)))

@@ -3,8 +3,8 @@
 -- The words here are defined in the crates below: `HoldsImage` and `Breaks` are which image a file's bytes
 -- are and which check they fail first (elf_write), `machine` and `start` are the machine of an image and
 -- where it starts (rv_form), `Call` and `Passes` are the calls of a console and what they do to what it
--- tells, and `Gives` is that an environment answers so (rv_emulator). For each list of calls there is such
--- an environment (rv_emulator's law `answers_are_of_an_environment`).
+-- tells, `Gives` is that an environment answers so, `IsOf` that calls are the whole of a run's under an
+-- environment, and `Shows` what a console tells after them (rv_emulator).
 use Rattle.std.specs.Prelude.{ℕ, ◌≡◌, ◌≢◌, ◌+◌, ◌<◌, ◌^◌, ◌⊎◌, List, ◌∷◌, length, Option, Some, None}
 use Rattle.scheme_base.specs.declared.env.Env.{Env}
 use Rattle.scheme_base.specs.declared.limit.Limit.{Limit}
@@ -20,6 +20,7 @@ use Rattle.rv_form.specs.Machine as runs
 use Rattle.elf_write.specs.declared.error.ElfErr.{ElfErr}
 use Rattle.elf_write.specs.declared.error.ElfErr.TheVariants as breaks
 use Rattle.elf_write.specs.Reading.{HoldsImage, Breaks}
+use Rattle.rv_emulator.specs.Answered.{IsOf, Shows}
 use Rattle.rv_emulator.specs.Held.{settled}
 use Rattle.rv_emulator.specs.Passing.{Call, Told, Passes, Gives, calls_with}
 use Rattle.stalin_top.specs.Command.{broken_word, IsEmulate}
@@ -42,7 +43,8 @@ IsAnswerTo steps calls run answer = ⊥
 
 -- The bytes are read as an image. In each environment that answers as the console has done, the calls that
 -- the machine's run of it has made when it is cut are those that the console was called for, and the
--- answer is what that run has come to.
+-- answer is what that run has come to. There is such an environment: what the console answered, where it
+-- tells that, is the run's trace, and its outputs have gained the bytes that were written.
 pub record IsEmulated (bytes : List ℕ) (steps : ℕ) (answer : Answer) (before now : Told) : Type 0 where
   pub image : Loaded
   pub held : HoldsImage bytes image
@@ -51,6 +53,9 @@ pub record IsEmulated (bytes : List ℕ) (steps : ℕ) (answer : Answer) (before
   pub runs :
       (env : Env) → Gives env (no_calls env) made
       → IsAnswerTo steps (calls_with env (no_calls env) made) (run_of image env steps) answer
+  pub env : Env
+  pub of_env : IsOf made env
+  pub shows : Shows made before now
 
 -- what is answered to the bytes of an image file, and what the console tells before and after
 abbrev pub IsRun : (bytes : List ℕ) (steps : ℕ) → Answer → (before now : Told) → Type 0

@@ -8,7 +8,7 @@ ghost use Rattle.stalin_top.specs.Headline.{IsNoUsage};
 use crate::Answer;
 use crate::files::{Reading, read_file};
 use elf_write::ElfErr;
-use rv_emulator::{RunEnd, load};
+use rv_emulator::{RunEnd, answers_are_of_an_environment, console_shows_the_trace, load};
 use scheme_base::{Limit, LimitKind};
 use stalin_outside::{Console, Shelf};
 use std::alloc::Global;
@@ -64,6 +64,8 @@ fn run<C: Console>(alloc: Global, console: &mut C, bytes: &[u8], steps: u64) -> 
     let Ok(mut machine) = load(alloc, &image) else {
         return Answer::NoMemory;
     };
+    answers_are_of_an_environment();
+    console_shows_the_trace();
     match machine.run(steps, console) {
         RunEnd::Ended { status } => Answer::Image { status },
         RunEnd::Spent { steps } => Answer::Spent { steps },
