@@ -1,0 +1,262 @@
+-- Blocks as linked steps, and how blocks, steps and sites are numbered.
+--
+-- L is what stands beside a step: its place in the text or, in a program that runs, its label.
+use Rattle.std.specs.Prelude.{ℕ, zero, suc, ◌+◌, nat_eq, List, [], ◌∷◌, ◌++◌, length, Option, Some, None, Bool, true, false, not, slice_get, if◌then◌else◌}
+use Rattle.std.specs.List.{list_any, filter, flat_map}
+use Rattle.scheme_base.specs.declared.lit.Lit.{Lit}
+use Rattle.scheme_base.specs.declared.op.Op.{Op}
+use Rattle.scheme_base.specs.declared.op.Op.TheVariants as op
+use Rattle.scheme_base.specs.declared.pos.Pos.{Pos}
+
+mutual
+  pub data Code (L : Type 0) : Type 0 where
+    -- the end of the block, with the variable whose value is the block's
+    Ends : (value : Option ℕ) → Code L
+    -- a step that binds these variables, and the block after it
+    Then : L → (vars : List ℕ) → Deed L → (rest : Code L) → Code L
+
+  pub data Deed (L : Type 0) : Type 0 where
+    Const : (lit : ℕ) → Deed L
+    Copy : (from : ℕ) → Deed L
+    Prim : Op → (operands : List ℕ) → Deed L
+    Call : (operator : ℕ) → (operands : List ℕ) → Deed L
+    Apply : (operator list : ℕ) → Deed L
+    CallCC : (operator : ℕ) → Deed L
+    If : (test : ℕ) → (this that : Code L) → Deed L
+    Closure : (proc : ℕ) → Deed L
+    Fix : (procs : List ℕ) → Deed L
+    MakeBox : (from : ℕ) → Deed L
+    MakeHole : Deed L
+    Unbox : (boxed : ℕ) → (checked : Bool) → Deed L
+    SetBox : (boxed from : ℕ) → Deed L
+    TopGet : (top : ℕ) → (checked : Bool) → Deed L
+    TopSet : (top from : ℕ) → (checked : Bool) → Deed L
+    TopDefine : (top from : ℕ) → Deed L
+
+-- a procedure as it is written
+pub record Written : Type 0 where
+  pub params : List ℕ
+  pub rest : Option ℕ
+  pub body : Code Pos
+
+-- Numbers
+
+-- how many steps, sites and blocks stand before a place of the program
+pub record Counts : Type 0 where
+  pub steps : ℕ
+  pub sites : ℕ
+  pub blocks : ℕ
+
+-- whether an operation makes an object
+abbrev pub makes : Op → Bool
+makes op.Cons = true
+makes op.MakeVector = true
+makes op.MakeString = true
+makes op.MakeSymbol = true
+makes o = false
+
+-- how many sites a step is
+abbrev pub sites_of : {L : Type 0} → Deed L → ℕ
+sites_of (Prim o operands) = if makes o then 1 else 0
+sites_of (MakeBox from) = 1
+sites_of MakeHole = 1
+sites_of (CallCC operator) = 1
+sites_of deed = 0
+
+-- how many arms a step has
+abbrev pub arms_of : {L : Type 0} → Deed L → ℕ
+arms_of (If test this that) = 2
+arms_of deed = 0
+
+-- past a step itself, before its arms
+abbrev pub past : {L : Type 0} → Counts → Deed L → Counts
+past at deed =
+    record { steps = suc at.steps; sites = at.sites + sites_of deed; blocks = at.blocks + arms_of deed }
+
+abbrev mutual
+  -- Steps are numbered as they stand, those of both arms after their `If` and before the steps that follow it.
+  -- The two arms of an `If` have two blocks' numbers, before all blocks in them.
+  pub past_code : {L : Type 0} → Counts → Code L → Counts
+  past_code at (Ends value) = at
+  past_code at (Then l vars deed rest) = past_code (past_arms (past at deed) deed) rest
+
+  pub past_arms : {L : Type 0} → Counts → Deed L → Counts
+  past_arms at (If test this that) = past_code (past_code at this) that
+  past_arms at deed = at
+
+-- what a step of a program that runs is known by
+pub record Label : Type 0 where
+  pub place : Pos
+  -- its number
+  pub step : ℕ
+  -- the site of what it makes, if it makes something
+  pub site : ℕ
+  -- the number of its first arm, if it has arms; the second arm has the next
+  pub arm : ℕ
+
+abbrev mutual
+  pub labelled : Counts → Code Pos → Code Label
+  labelled at (Ends value) = Ends value
+  labelled at (Then place vars deed rest) =
+      Then (record { place = place; step = at.steps; site = at.sites; arm = at.blocks }) vars
+      (labelled_deed (past at deed) deed) (labelled (past_arms (past at deed) deed) rest)
+
+  pub labelled_deed : Counts → Deed Pos → Deed Label
+  labelled_deed at (If test this that) = If test (labelled at this) (labelled (past_code at this) that)
+  labelled_deed at (Const lit) = Const lit
+  labelled_deed at (Copy from) = Copy from
+  labelled_deed at (Prim o operands) = Prim o operands
+  labelled_deed at (Call operator operands) = Call operator operands
+  labelled_deed at (Apply operator list) = Apply operator list
+  labelled_deed at (CallCC operator) = CallCC operator
+  labelled_deed at (Closure proc) = Closure proc
+  labelled_deed at (Fix procs) = Fix procs
+  labelled_deed at (MakeBox from) = MakeBox from
+  labelled_deed at MakeHole = MakeHole
+  labelled_deed at (Unbox boxed checked) = Unbox boxed checked
+  labelled_deed at (SetBox boxed from) = SetBox boxed from
+  labelled_deed at (TopGet top checked) = TopGet top checked
+  labelled_deed at (TopSet top from checked) = TopSet top from checked
+  labelled_deed at (TopDefine top from) = TopDefine top from
+
+-- Variables
+
+abbrev pub has : List ℕ → ℕ → Bool
+has xs x = list_any (nat_eq x) xs
+
+-- the variables that a step reads itself
+abbrev pub reads : {L : Type 0} → Deed L → List ℕ
+reads (Copy from) = from ∷ []
+reads (Prim o operands) = operands
+reads (Call operator operands) = operator ∷ operands
+reads (Apply operator list) = operator ∷ list ∷ []
+reads (CallCC operator) = operator ∷ []
+reads (If test this that) = test ∷ []
+reads (MakeBox from) = from ∷ []
+reads (Unbox boxed checked) = boxed ∷ []
+reads (SetBox boxed from) = boxed ∷ from ∷ []
+reads (TopSet top from checked) = from ∷ []
+reads (TopDefine top from) = from ∷ []
+reads deed = []
+
+abbrev pub option_list : Option ℕ → List ℕ
+option_list None = []
+option_list (Some x) = x ∷ []
+
+-- the procedures of which a step makes closures
+abbrev pub closes : {L : Type 0} → Deed L → List ℕ
+closes (Closure proc) = proc ∷ []
+closes (Fix procs) = procs
+closes deed = []
+
+abbrev mutual
+  -- the variables that a block binds, its arms among it, in their order
+  pub binds : {L : Type 0} → Code L → List ℕ
+  binds (Ends value) = []
+  binds (Then l vars deed rest) = vars ++ (arms_bind deed ++ binds rest)
+
+  pub arms_bind : {L : Type 0} → Deed L → List ℕ
+  arms_bind (If test this that) = binds this ++ binds that
+  arms_bind deed = []
+
+abbrev mutual
+  -- the variables that a block reads, its arms among it
+  pub reads_in : {L : Type 0} → Code L → List ℕ
+  reads_in (Ends value) = option_list value
+  reads_in (Then l vars deed rest) = reads deed ++ (arms_read deed ++ reads_in rest)
+
+  pub arms_read : {L : Type 0} → Deed L → List ℕ
+  arms_read (If test this that) = reads_in this ++ reads_in that
+  arms_read deed = []
+
+abbrev mutual
+  -- the procedures of which a block makes closures
+  pub closes_in : {L : Type 0} → Code L → List ℕ
+  closes_in (Ends value) = []
+  closes_in (Then l vars deed rest) = closes deed ++ (arms_close deed ++ closes_in rest)
+
+  pub arms_close : {L : Type 0} → Deed L → List ℕ
+  arms_close (If test this that) = closes_in this ++ closes_in that
+  arms_close deed = []
+
+-- all that a procedure binds: its parameters, its rest parameter, and what its body binds
+abbrev pub bound_in : Written → List ℕ
+bound_in p = p.params ++ (option_list p.rest ++ binds p.body)
+
+-- a list without those that it has a second time
+abbrev pub once : List ℕ → List ℕ
+once [] = []
+once (x ∷ xs) = x ∷ filter (λ y. not (nat_eq x y)) (once xs)
+
+abbrev pub written_at : Option Written → Written
+written_at None = record { params = []; rest = None; body = Ends None }
+written_at (Some p) = p
+
+-- The free variables of a procedure: those that it reads, or that are free in a procedure of which it makes
+-- closures, and that it does not bind. Procedures nest no deeper than there are procedures.
+abbrev pub free_in : (deep : ℕ) → List Written → (proc : ℕ) → List ℕ
+free_in zero ps q = []
+free_in (suc deep) ps q =
+    let p = written_at (slice_get ps q) in
+    filter (λ x. not (has (bound_in p) x)) (once (reads_in p.body ++ flat_map (free_in deep ps) (closes_in p.body)))
+
+-- Programs that run
+
+-- a procedure as it runs
+pub record Lambda : Type 0 where
+  pub params : List ℕ
+  pub rest : Option ℕ
+  pub body : Code Label
+  -- the number of its body
+  pub block : ℕ
+  -- the site of its rest list, if it has one
+  pub list_site : ℕ
+  -- its free variables
+  pub free : List ℕ
+  -- the variables that it binds
+  pub bound : List ℕ
+
+pub record Program : Type 0 where
+  pub procs : List Lambda
+  pub lits : List Lit
+
+-- procedures numbered from q on, where the body of the first is this block, and its rest list this site
+abbrev pub procedures : (all : List Written) → (q : ℕ) → (list_site : ℕ) → Counts → List Written → List Lambda
+procedures all q list_site at [] = []
+procedures all q list_site at (p ∷ ps) =
+    let inside : Counts = record { steps = at.steps; sites = at.sites; blocks = suc at.blocks } in
+    record {
+      params = p.params;
+      rest = p.rest;
+      body = labelled inside p.body;
+      block = at.blocks;
+      list_site = list_site;
+      free = free_in (length all) all q;
+      bound = bound_in p;
+    }
+    ∷ procedures all (suc q) (list_site + length (option_list p.rest)) (past_code inside p.body) ps
+
+abbrev pub rest_lists : List Written → ℕ
+rest_lists [] = 0
+rest_lists (p ∷ ps) = length (option_list p.rest) + rest_lists ps
+
+abbrev pub but_first : List Written → List Written
+but_first [] = []
+but_first (p ∷ ps) = ps
+
+-- Sites are numbered thus: the closures of the procedures from 1 on, the rest lists, then the steps that make
+-- something, in the order of steps.
+abbrev pub program : List Written → List Lit → Program
+program ps lits =
+    let closures = length (but_first ps) in
+    record {
+      procs =
+          procedures ps 0 closures
+          (record { steps = 0; sites = closures + rest_lists ps; blocks = 0 }) ps;
+      lits = lits;
+    }
+
+-- the site of the closures of a procedure
+abbrev pub closure_site : (proc : ℕ) → ℕ
+closure_site zero = 0
+closure_site (suc q) = q
