@@ -4,6 +4,8 @@
 mod law;
 mod plan;
 mod program;
+#[cfg(test)]
+mod tests;
 
 pub use law::named_steps;
 pub use plan::{
