@@ -15,7 +15,8 @@ use Rattle.named_form.proofs.Seen.{at, quiet, one_x, first_fails, end_then_x, se
 abbrev overflow_procs : List Written
 overflow_procs =
     record {
-      params = []; rest = None;
+      params = [];
+      rest = None;
       body =
           Then (at 0 196) (0 ∷ []) (Closure 1) (
           Then (at 0 196) (1 ∷ []) (TopDefine 0 0) (
@@ -29,36 +30,38 @@ overflow_procs =
           Ends None)))))))));
     } ∷
     record {
-      params = (9 ∷ []); rest = None;
+      params = (9 ∷ []);
+      rest = None;
       body =
           Then (at 0 196) (10 ∷ []) (Const 0) (
           Then (at 0 196) (11 ∷ []) (Prim op.Less (9 ∷ 10 ∷ [])) (
           Then (at 0 196) (12 ∷ []) (If 11
-            (Then (at 0 196) (13 ∷ []) (Const 1) (
-             Then (at 0 196) (14 ∷ []) (Prim op.WriteChar (13 ∷ [])) (
-             Then (at 0 196) (15 ∷ []) (TopGet 1 false) (
-             Then (at 0 196) (16 ∷ []) (Call 15 (9 ∷ [])) (
-             Ends (Some 16))))))
-            (Then (at 0 196) (17 ∷ []) (TopGet 1 false) (
-             Then (at 0 196) (18 ∷ []) (Const 2) (
-             Then (at 0 196) (19 ∷ []) (Prim op.Subtract (18 ∷ 9 ∷ [])) (
-             Then (at 0 196) (20 ∷ []) (Call 17 (19 ∷ [])) (
-             Ends (Some 20))))))) (
+          (Then (at 0 196) (13 ∷ []) (Const 1) (
+          Then (at 0 196) (14 ∷ []) (Prim op.WriteChar (13 ∷ [])) (
+          Then (at 0 196) (15 ∷ []) (TopGet 1 false) (
+          Then (at 0 196) (16 ∷ []) (Call 15 (9 ∷ [])) (
+          Ends (Some 16))))))
+          (Then (at 0 196) (17 ∷ []) (TopGet 1 false) (
+          Then (at 0 196) (18 ∷ []) (Const 2) (
+          Then (at 0 196) (19 ∷ []) (Prim op.Subtract (18 ∷ 9 ∷ [])) (
+          Then (at 0 196) (20 ∷ []) (Call 17 (19 ∷ [])) (
+          Ends (Some 20))))))) (
           Ends (Some 12))));
     } ∷
     record {
-      params = (21 ∷ []); rest = None;
+      params = (21 ∷ []);
+      rest = None;
       body =
           Then (at 0 196) (22 ∷ []) (Const 3) (
           Then (at 0 196) (23 ∷ []) (Prim op.Less (22 ∷ 21 ∷ [])) (
           Then (at 0 196) (24 ∷ []) (If 23
-            (Then (at 0 196) (25 ∷ []) (Const 4) (
-             Ends (Some 25)))
-            (Then (at 0 196) (26 ∷ []) (TopGet 1 false) (
-             Then (at 0 196) (27 ∷ []) (Const 5) (
-             Then (at 0 196) (28 ∷ []) (Prim op.Quotient (21 ∷ 27 ∷ [])) (
-             Then (at 0 196) (29 ∷ []) (Call 26 (28 ∷ [])) (
-             Ends (Some 29))))))) (
+          (Then (at 0 196) (25 ∷ []) (Const 4) (
+          Ends (Some 25)))
+          (Then (at 0 196) (26 ∷ []) (TopGet 1 false) (
+          Then (at 0 196) (27 ∷ []) (Const 5) (
+          Then (at 0 196) (28 ∷ []) (Prim op.Quotient (21 ∷ 27 ∷ [])) (
+          Then (at 0 196) (29 ∷ []) (Call 26 (28 ∷ [])) (
+          Ends (Some 29))))))) (
           Then (at 0 196) (30 ∷ []) (Const 6) (
           Then (at 0 196) (31 ∷ []) (Const 7) (
           Then (at 0 196) (32 ∷ []) (Prim op.Remainder (21 ∷ 31 ∷ [])) (
@@ -76,15 +79,16 @@ overflow = refl
 abbrev arm_not_taken_procs : List Written
 arm_not_taken_procs =
     record {
-      params = []; rest = None;
+      params = [];
+      rest = None;
       body =
           Then (at 1 5) (0 ∷ []) (Const 0) (
           Then (at 1 1) (1 ∷ []) (If 0
-            (Then (at 1 13) (2 ∷ []) (Const 1) (
-             Then (at 1 8) (3 ∷ []) (Prim op.Car (2 ∷ [])) (
-             Ends (Some 3))))
-            (Then (at 1 1) (4 ∷ []) (Const 2) (
-             Ends (Some 4)))) (
+          (Then (at 1 13) (2 ∷ []) (Const 1) (
+          Then (at 1 8) (3 ∷ []) (Prim op.Car (2 ∷ [])) (
+          Ends (Some 3))))
+          (Then (at 1 1) (4 ∷ []) (Const 2) (
+          Ends (Some 4)))) (
           Ends None));
     } ∷
     []
@@ -96,7 +100,8 @@ arm_not_taken = refl
 abbrev hole_procs : List Written
 hole_procs =
     record {
-      params = []; rest = None;
+      params = [];
+      rest = None;
       body =
           Then (at 1 1) (0 ∷ []) MakeHole (
           Then (at 1 1) (1 ∷ []) MakeHole (
@@ -118,7 +123,8 @@ hole = refl
 abbrev copy_procs : List Written
 copy_procs =
     record {
-      params = []; rest = None;
+      params = [];
+      rest = None;
       body =
           Then (at 1 13) (0 ∷ []) (Prim op.ReadChar []) (
           Then (at 1 1) (1 ∷ []) (Prim op.WriteChar (0 ∷ [])) (
@@ -133,7 +139,8 @@ copy = refl
 abbrev read_fails_procs : List Written
 read_fails_procs =
     record {
-      params = []; rest = None;
+      params = [];
+      rest = None;
       body =
           Then (at 1 13) (0 ∷ []) (Prim op.ReadChar []) (
           Then (at 1 1) (1 ∷ []) (Prim op.WriteChar (0 ∷ [])) (
@@ -148,7 +155,8 @@ read_fails = refl
 abbrev end_is_no_character_procs : List Written
 end_is_no_character_procs =
     record {
-      params = []; rest = None;
+      params = [];
+      rest = None;
       body =
           Then (at 1 13) (0 ∷ []) (Prim op.ReadChar []) (
           Then (at 1 1) (1 ∷ []) (Prim op.WriteChar (0 ∷ [])) (
@@ -163,7 +171,8 @@ end_is_no_character = refl
 abbrev car_of_nil_procs : List Written
 car_of_nil_procs =
     record {
-      params = []; rest = None;
+      params = [];
+      rest = None;
       body =
           Then (at 1 6) (0 ∷ []) (Const 0) (
           Then (at 1 1) (1 ∷ []) (Prim op.Car (0 ∷ [])) (
@@ -178,7 +187,8 @@ car_of_nil = refl
 abbrev no_item_procs : List Written
 no_item_procs =
     record {
-      params = []; rest = None;
+      params = [];
+      rest = None;
       body =
           Then (at 1 27) (0 ∷ []) (Const 0) (
           Then (at 1 29) (1 ∷ []) (Const 1) (
@@ -196,7 +206,8 @@ no_item = refl
 abbrev unbound_procs : List Written
 unbound_procs =
     record {
-      params = []; rest = None;
+      params = [];
+      rest = None;
       body =
           Then (at 1 2) (0 ∷ []) (TopGet 0 true) (
           Then (at 1 1) (1 ∷ []) (Call 0 []) (
@@ -211,7 +222,8 @@ unbound = refl
 abbrev no_procedure_procs : List Written
 no_procedure_procs =
     record {
-      params = []; rest = None;
+      params = [];
+      rest = None;
       body =
           Then (at 1 2) (0 ∷ []) (Const 0) (
           Then (at 1 4) (1 ∷ []) (Const 1) (
@@ -227,14 +239,16 @@ no_procedure = refl
 abbrev no_operand_procs : List Written
 no_operand_procs =
     record {
-      params = []; rest = None;
+      params = [];
+      rest = None;
       body =
           Then (at 1 2) (0 ∷ []) (Closure 1) (
           Then (at 1 1) (1 ∷ []) (Call 0 []) (
           Ends None));
     } ∷
     record {
-      params = (2 ∷ []); rest = None;
+      params = (2 ∷ []);
+      rest = None;
       body =
           Ends (Some 2);
     } ∷
@@ -247,7 +261,8 @@ no_operand = refl
 abbrev zero_divisor_procs : List Written
 zero_divisor_procs =
     record {
-      params = []; rest = None;
+      params = [];
+      rest = None;
       body =
           Then (at 1 11) (0 ∷ []) (Const 0) (
           Then (at 1 13) (1 ∷ []) (Const 1) (
@@ -263,7 +278,8 @@ zero_divisor = refl
 abbrev not_a_list_procs : List Written
 not_a_list_procs =
     record {
-      params = []; rest = None;
+      params = [];
+      rest = None;
       body =
           Then (at 1 9) (0 ∷ []) (Closure 1) (
           Then (at 1 24) (1 ∷ []) (Const 0) (
@@ -271,7 +287,8 @@ not_a_list_procs =
           Ends None)));
     } ∷
     record {
-      params = (3 ∷ []); rest = None;
+      params = (3 ∷ []);
+      rest = None;
       body =
           Ends (Some 3);
     } ∷
@@ -284,7 +301,8 @@ not_a_list = refl
 abbrev applied_count_procs : List Written
 applied_count_procs =
     record {
-      params = []; rest = None;
+      params = [];
+      rest = None;
       body =
           Then (at 1 9) (0 ∷ []) (Closure 1) (
           Then (at 1 24) (1 ∷ []) (Const 0) (
@@ -292,7 +310,8 @@ applied_count_procs =
           Ends None)));
     } ∷
     record {
-      params = (3 ∷ []); rest = None;
+      params = (3 ∷ []);
+      rest = None;
       body =
           Ends (Some 3);
     } ∷
@@ -305,7 +324,8 @@ applied_count = refl
 abbrev assigned_before_definition_procs : List Written
 assigned_before_definition_procs =
     record {
-      params = []; rest = None;
+      params = [];
+      rest = None;
       body =
           Then (at 1 9) (0 ∷ []) (Const 0) (
           Then (at 1 1) (1 ∷ []) (TopSet 0 0 true) (
@@ -320,16 +340,17 @@ assigned_before_definition = refl
 abbrev end_is_not_kept_procs : List Written
 end_is_not_kept_procs =
     record {
-      params = []; rest = None;
+      params = [];
+      rest = None;
       body =
           Then (at 1 18) (0 ∷ []) (Prim op.PeekChar []) (
           Then (at 1 5) (1 ∷ []) (Prim op.IsEof (0 ∷ [])) (
           Then (at 1 1) (2 ∷ []) (If 1
-            (Then (at 1 43) (3 ∷ []) (Prim op.ReadChar []) (
-             Then (at 1 31) (4 ∷ []) (Prim op.WriteChar (3 ∷ [])) (
-             Ends (Some 4))))
-            (Then (at 1 1) (5 ∷ []) (Const 0) (
-             Ends (Some 5)))) (
+          (Then (at 1 43) (3 ∷ []) (Prim op.ReadChar []) (
+          Then (at 1 31) (4 ∷ []) (Prim op.WriteChar (3 ∷ [])) (
+          Ends (Some 4))))
+          (Then (at 1 1) (5 ∷ []) (Const 0) (
+          Ends (Some 5)))) (
           Ends None)));
     } ∷
     []

@@ -2,19 +2,24 @@
 --
 -- Expected values are R4RS's and this profile's, worked out by hand. A program stands in line 1 of its
 -- text; what it needs of the library is written out before, all at 0:196.
+--
+-- They refuse definitions of another meaning: `loop_points` a tail call that makes a return point, `reentered`
+-- a continuation without its return points, `applied` a rest parameter that has all operands, `least_number` a
+-- return that forgets the arms around the call, `loop` closures that keep nothing.
 use Rattle.std.proofs.Common.{◌≡◌, List, [], ◌∷◌, Some, None, refl}
 use Rattle.std.specs.Prelude.{pos, negsuc, codes, true, false}
 use Rattle.scheme_base.specs.declared.lit.Lit.TheVariants as lit
 use Rattle.scheme_base.specs.declared.op.Op.TheVariants as op
 use Rattle.scheme_base.specs.Stops.{End}
 use Rattle.named_form.specs.Code.{Written, Ends, Then, Const, Copy, Prim, Call, Apply, CallCC, If, Closure, Fix, TopGet, TopSet, TopDefine}
-use Rattle.named_form.proofs.Seen.{at, quiet, seen, stops}
+use Rattle.named_form.proofs.Seen.{at, quiet, seen, stops, points_made}
 
 -- (display "hi")(newline)
 abbrev text_procs : List Written
 text_procs =
     record {
-      params = []; rest = None;
+      params = [];
+      rest = None;
       body =
           Then (at 0 196) (0 ∷ []) (Closure 1) (
           Then (at 0 196) (1 ∷ []) (TopDefine 0 0) (
@@ -30,24 +35,26 @@ text_procs =
           Ends None)))))))))));
     } ∷
     record {
-      params = (11 ∷ 12 ∷ []); rest = None;
+      params = (11 ∷ 12 ∷ []);
+      rest = None;
       body =
           Then (at 0 196) (13 ∷ []) (Prim op.StringLength (11 ∷ [])) (
           Then (at 0 196) (14 ∷ []) (Prim op.Equals (12 ∷ 13 ∷ [])) (
           Then (at 0 196) (15 ∷ []) (If 14
-            (Then (at 0 196) (16 ∷ []) (Const 0) (
-             Ends (Some 16)))
-            (Then (at 0 196) (17 ∷ []) (Prim op.StringRef (11 ∷ 12 ∷ [])) (
-             Then (at 0 196) (18 ∷ []) (Prim op.WriteChar (17 ∷ [])) (
-             Then (at 0 196) (19 ∷ []) (TopGet 0 false) (
-             Then (at 0 196) (20 ∷ []) (Const 1) (
-             Then (at 0 196) (21 ∷ []) (Prim op.Add (12 ∷ 20 ∷ [])) (
-             Then (at 0 196) (22 ∷ []) (Call 19 (11 ∷ 21 ∷ [])) (
-             Ends (Some 22))))))))) (
+          (Then (at 0 196) (16 ∷ []) (Const 0) (
+          Ends (Some 16)))
+          (Then (at 0 196) (17 ∷ []) (Prim op.StringRef (11 ∷ 12 ∷ [])) (
+          Then (at 0 196) (18 ∷ []) (Prim op.WriteChar (17 ∷ [])) (
+          Then (at 0 196) (19 ∷ []) (TopGet 0 false) (
+          Then (at 0 196) (20 ∷ []) (Const 1) (
+          Then (at 0 196) (21 ∷ []) (Prim op.Add (12 ∷ 20 ∷ [])) (
+          Then (at 0 196) (22 ∷ []) (Call 19 (11 ∷ 21 ∷ [])) (
+          Ends (Some 22))))))))) (
           Ends (Some 15))));
     } ∷
     record {
-      params = (23 ∷ []); rest = None;
+      params = (23 ∷ []);
+      rest = None;
       body =
           Then (at 0 196) (24 ∷ []) (TopGet 0 false) (
           Then (at 0 196) (25 ∷ []) (Const 2) (
@@ -55,7 +62,8 @@ text_procs =
           Ends (Some 26))));
     } ∷
     record {
-      params = []; rest = None;
+      params = [];
+      rest = None;
       body =
           Then (at 0 196) (27 ∷ []) (Const 3) (
           Then (at 0 196) (28 ∷ []) (Prim op.WriteChar (27 ∷ [])) (
@@ -70,7 +78,8 @@ text = refl
 abbrev least_number_procs : List Written
 least_number_procs =
     record {
-      params = []; rest = None;
+      params = [];
+      rest = None;
       body =
           Then (at 0 196) (0 ∷ []) (Closure 1) (
           Then (at 0 196) (1 ∷ []) (TopDefine 0 0) (
@@ -84,36 +93,38 @@ least_number_procs =
           Ends None)))))))));
     } ∷
     record {
-      params = (9 ∷ []); rest = None;
+      params = (9 ∷ []);
+      rest = None;
       body =
           Then (at 0 196) (10 ∷ []) (Const 0) (
           Then (at 0 196) (11 ∷ []) (Prim op.Less (9 ∷ 10 ∷ [])) (
           Then (at 0 196) (12 ∷ []) (If 11
-            (Then (at 0 196) (13 ∷ []) (Const 1) (
-             Then (at 0 196) (14 ∷ []) (Prim op.WriteChar (13 ∷ [])) (
-             Then (at 0 196) (15 ∷ []) (TopGet 1 false) (
-             Then (at 0 196) (16 ∷ []) (Call 15 (9 ∷ [])) (
-             Ends (Some 16))))))
-            (Then (at 0 196) (17 ∷ []) (TopGet 1 false) (
-             Then (at 0 196) (18 ∷ []) (Const 2) (
-             Then (at 0 196) (19 ∷ []) (Prim op.Subtract (18 ∷ 9 ∷ [])) (
-             Then (at 0 196) (20 ∷ []) (Call 17 (19 ∷ [])) (
-             Ends (Some 20))))))) (
+          (Then (at 0 196) (13 ∷ []) (Const 1) (
+          Then (at 0 196) (14 ∷ []) (Prim op.WriteChar (13 ∷ [])) (
+          Then (at 0 196) (15 ∷ []) (TopGet 1 false) (
+          Then (at 0 196) (16 ∷ []) (Call 15 (9 ∷ [])) (
+          Ends (Some 16))))))
+          (Then (at 0 196) (17 ∷ []) (TopGet 1 false) (
+          Then (at 0 196) (18 ∷ []) (Const 2) (
+          Then (at 0 196) (19 ∷ []) (Prim op.Subtract (18 ∷ 9 ∷ [])) (
+          Then (at 0 196) (20 ∷ []) (Call 17 (19 ∷ [])) (
+          Ends (Some 20))))))) (
           Ends (Some 12))));
     } ∷
     record {
-      params = (21 ∷ []); rest = None;
+      params = (21 ∷ []);
+      rest = None;
       body =
           Then (at 0 196) (22 ∷ []) (Const 3) (
           Then (at 0 196) (23 ∷ []) (Prim op.Less (22 ∷ 21 ∷ [])) (
           Then (at 0 196) (24 ∷ []) (If 23
-            (Then (at 0 196) (25 ∷ []) (Const 4) (
-             Ends (Some 25)))
-            (Then (at 0 196) (26 ∷ []) (TopGet 1 false) (
-             Then (at 0 196) (27 ∷ []) (Const 5) (
-             Then (at 0 196) (28 ∷ []) (Prim op.Quotient (21 ∷ 27 ∷ [])) (
-             Then (at 0 196) (29 ∷ []) (Call 26 (28 ∷ [])) (
-             Ends (Some 29))))))) (
+          (Then (at 0 196) (25 ∷ []) (Const 4) (
+          Ends (Some 25)))
+          (Then (at 0 196) (26 ∷ []) (TopGet 1 false) (
+          Then (at 0 196) (27 ∷ []) (Const 5) (
+          Then (at 0 196) (28 ∷ []) (Prim op.Quotient (21 ∷ 27 ∷ [])) (
+          Then (at 0 196) (29 ∷ []) (Call 26 (28 ∷ [])) (
+          Ends (Some 29))))))) (
           Then (at 0 196) (30 ∷ []) (Const 6) (
           Then (at 0 196) (31 ∷ []) (Const 7) (
           Then (at 0 196) (32 ∷ []) (Prim op.Remainder (21 ∷ 31 ∷ [])) (
@@ -131,7 +142,8 @@ least_number = refl
 abbrev loop_procs : List Written
 loop_procs =
     record {
-      params = []; rest = None;
+      params = [];
+      rest = None;
       body =
           Then (at 1 1) (0 ∷ []) (Fix (1 ∷ [])) (
           Then (at 1 61) (1 ∷ []) (Const 3) (
@@ -139,17 +151,18 @@ loop_procs =
           Ends None)));
     } ∷
     record {
-      params = (3 ∷ []); rest = None;
+      params = (3 ∷ []);
+      rest = None;
       body =
           Then (at 1 35) (4 ∷ []) (Const 0) (
           Then (at 1 30) (5 ∷ []) (Prim op.Equals (3 ∷ 4 ∷ [])) (
           Then (at 1 26) (6 ∷ []) (If 5
-            (Then (at 1 38) (7 ∷ []) (Const 1) (
-             Ends (Some 7)))
-            (Then (at 1 49) (8 ∷ []) (Const 2) (
-             Then (at 1 44) (9 ∷ []) (Prim op.Add (3 ∷ 8 ∷ [])) (
-             Then (at 1 40) (10 ∷ []) (Call 0 (9 ∷ [])) (
-             Ends (Some 10)))))) (
+          (Then (at 1 38) (7 ∷ []) (Const 1) (
+          Ends (Some 7)))
+          (Then (at 1 49) (8 ∷ []) (Const 2) (
+          Then (at 1 44) (9 ∷ []) (Prim op.Add (3 ∷ 8 ∷ [])) (
+          Then (at 1 40) (10 ∷ []) (Call 0 (9 ∷ [])) (
+          Ends (Some 10)))))) (
           Ends (Some 6))));
     } ∷
     []
@@ -161,7 +174,8 @@ loop = refl
 abbrev pairs_procs : List Written
 pairs_procs =
     record {
-      params = []; rest = None;
+      params = [];
+      rest = None;
       body =
           Then (at 1 1) (0 ∷ []) (Closure 1) (
           Then (at 1 1) (1 ∷ []) (TopDefine 0 0) (
@@ -175,7 +189,8 @@ pairs_procs =
           Ends None)))))))));
     } ∷
     record {
-      params = (9 ∷ []); rest = None;
+      params = (9 ∷ []);
+      rest = None;
       body =
           Then (at 1 24) (10 ∷ []) (Prim op.Cons (9 ∷ 9 ∷ [])) (
           Then (at 1 15) (11 ∷ []) (Copy 10) (
@@ -183,20 +198,21 @@ pairs_procs =
           Ends (Some 12))));
     } ∷
     record {
-      params = (13 ∷ []); rest = None;
+      params = (13 ∷ []);
+      rest = None;
       body =
           Then (at 1 72) (14 ∷ []) (Const 0) (
           Then (at 1 67) (15 ∷ []) (Prim op.Equals (13 ∷ 14 ∷ [])) (
           Then (at 1 63) (16 ∷ []) (If 15
-            (Then (at 1 75) (17 ∷ []) (Const 1) (
-             Ends (Some 17)))
-            (Then (at 1 85) (18 ∷ []) (TopGet 0 false) (
-             Then (at 1 84) (19 ∷ []) (Call 18 (13 ∷ [])) (
-             Then (at 1 91) (20 ∷ []) (TopGet 1 false) (
-             Then (at 1 101) (21 ∷ []) (Const 2) (
-             Then (at 1 96) (22 ∷ []) (Prim op.Subtract (13 ∷ 21 ∷ [])) (
-             Then (at 1 90) (23 ∷ []) (Call 20 (22 ∷ [])) (
-             Ends (Some 23))))))))) (
+          (Then (at 1 75) (17 ∷ []) (Const 1) (
+          Ends (Some 17)))
+          (Then (at 1 85) (18 ∷ []) (TopGet 0 false) (
+          Then (at 1 84) (19 ∷ []) (Call 18 (13 ∷ [])) (
+          Then (at 1 91) (20 ∷ []) (TopGet 1 false) (
+          Then (at 1 101) (21 ∷ []) (Const 2) (
+          Then (at 1 96) (22 ∷ []) (Prim op.Subtract (13 ∷ 21 ∷ [])) (
+          Then (at 1 90) (23 ∷ []) (Call 20 (22 ∷ [])) (
+          Ends (Some 23))))))))) (
           Ends (Some 16))));
     } ∷
     []
@@ -208,7 +224,8 @@ pairs = refl
 abbrev reentered_procs : List Written
 reentered_procs =
     record {
-      params = []; rest = None;
+      params = [];
+      rest = None;
       body =
           Then (at 0 196) (0 ∷ []) (Closure 1) (
           Then (at 0 196) (1 ∷ []) (TopDefine 0 0) (
@@ -230,45 +247,47 @@ reentered_procs =
           Then (at 1 125) (17 ∷ []) (Const 12) (
           Then (at 1 120) (18 ∷ []) (Prim op.Less (16 ∷ 17 ∷ [])) (
           Then (at 1 116) (19 ∷ []) (If 18
-            (Then (at 1 129) (20 ∷ []) (TopGet 3 false) (
-             Then (at 1 131) (21 ∷ []) (TopGet 2 false) (
-             Then (at 1 128) (22 ∷ []) (Call 20 (21 ∷ [])) (
-             Ends (Some 22)))))
-            (Then (at 1 116) (23 ∷ []) (Const 13) (
-             Ends (Some 23)))) (
+          (Then (at 1 129) (20 ∷ []) (TopGet 3 false) (
+          Then (at 1 131) (21 ∷ []) (TopGet 2 false) (
+          Then (at 1 128) (22 ∷ []) (Call 20 (21 ∷ [])) (
+          Ends (Some 22)))))
+          (Then (at 1 116) (23 ∷ []) (Const 13) (
+          Ends (Some 23)))) (
           Ends None))))))))))))))))))));
     } ∷
     record {
-      params = (24 ∷ []); rest = None;
+      params = (24 ∷ []);
+      rest = None;
       body =
           Then (at 0 196) (25 ∷ []) (Const 0) (
           Then (at 0 196) (26 ∷ []) (Prim op.Less (24 ∷ 25 ∷ [])) (
           Then (at 0 196) (27 ∷ []) (If 26
-            (Then (at 0 196) (28 ∷ []) (Const 1) (
-             Then (at 0 196) (29 ∷ []) (Prim op.WriteChar (28 ∷ [])) (
-             Then (at 0 196) (30 ∷ []) (TopGet 1 false) (
-             Then (at 0 196) (31 ∷ []) (Call 30 (24 ∷ [])) (
-             Ends (Some 31))))))
-            (Then (at 0 196) (32 ∷ []) (TopGet 1 false) (
-             Then (at 0 196) (33 ∷ []) (Const 2) (
-             Then (at 0 196) (34 ∷ []) (Prim op.Subtract (33 ∷ 24 ∷ [])) (
-             Then (at 0 196) (35 ∷ []) (Call 32 (34 ∷ [])) (
-             Ends (Some 35))))))) (
+          (Then (at 0 196) (28 ∷ []) (Const 1) (
+          Then (at 0 196) (29 ∷ []) (Prim op.WriteChar (28 ∷ [])) (
+          Then (at 0 196) (30 ∷ []) (TopGet 1 false) (
+          Then (at 0 196) (31 ∷ []) (Call 30 (24 ∷ [])) (
+          Ends (Some 31))))))
+          (Then (at 0 196) (32 ∷ []) (TopGet 1 false) (
+          Then (at 0 196) (33 ∷ []) (Const 2) (
+          Then (at 0 196) (34 ∷ []) (Prim op.Subtract (33 ∷ 24 ∷ [])) (
+          Then (at 0 196) (35 ∷ []) (Call 32 (34 ∷ [])) (
+          Ends (Some 35))))))) (
           Ends (Some 27))));
     } ∷
     record {
-      params = (36 ∷ []); rest = None;
+      params = (36 ∷ []);
+      rest = None;
       body =
           Then (at 0 196) (37 ∷ []) (Const 3) (
           Then (at 0 196) (38 ∷ []) (Prim op.Less (37 ∷ 36 ∷ [])) (
           Then (at 0 196) (39 ∷ []) (If 38
-            (Then (at 0 196) (40 ∷ []) (Const 4) (
-             Ends (Some 40)))
-            (Then (at 0 196) (41 ∷ []) (TopGet 1 false) (
-             Then (at 0 196) (42 ∷ []) (Const 5) (
-             Then (at 0 196) (43 ∷ []) (Prim op.Quotient (36 ∷ 42 ∷ [])) (
-             Then (at 0 196) (44 ∷ []) (Call 41 (43 ∷ [])) (
-             Ends (Some 44))))))) (
+          (Then (at 0 196) (40 ∷ []) (Const 4) (
+          Ends (Some 40)))
+          (Then (at 0 196) (41 ∷ []) (TopGet 1 false) (
+          Then (at 0 196) (42 ∷ []) (Const 5) (
+          Then (at 0 196) (43 ∷ []) (Prim op.Quotient (36 ∷ 42 ∷ [])) (
+          Then (at 0 196) (44 ∷ []) (Call 41 (43 ∷ [])) (
+          Ends (Some 44))))))) (
           Then (at 0 196) (45 ∷ []) (Const 6) (
           Then (at 0 196) (46 ∷ []) (Const 7) (
           Then (at 0 196) (47 ∷ []) (Prim op.Remainder (36 ∷ 46 ∷ [])) (
@@ -278,7 +297,8 @@ reentered_procs =
           Ends (Some 50))))))))));
     } ∷
     record {
-      params = (51 ∷ []); rest = None;
+      params = (51 ∷ []);
+      rest = None;
       body =
           Then (at 1 84) (52 ∷ []) (TopSet 3 51 false) (
           Then (at 1 95) (53 ∷ []) (Const 10) (
@@ -293,7 +313,8 @@ reentered = refl
 abbrev left_to_right_procs : List Written
 left_to_right_procs =
     record {
-      params = []; rest = None;
+      params = [];
+      rest = None;
       body =
           Then (at 1 1) (0 ∷ []) (Closure 1) (
           Then (at 1 1) (1 ∷ []) (TopDefine 0 0) (
@@ -308,7 +329,8 @@ left_to_right_procs =
           Ends None))))))))));
     } ∷
     record {
-      params = []; rest = Some 10;
+      params = [];
+      rest = Some 10;
       body =
           Ends (Some 10);
     } ∷
@@ -321,7 +343,8 @@ left_to_right = refl
 abbrev identity_procs : List Written
 identity_procs =
     record {
-      params = []; rest = None;
+      params = [];
+      rest = None;
       body =
           Then (at 0 196) (0 ∷ []) (Closure 1) (
           Then (at 0 196) (1 ∷ []) (TopDefine 0 0) (
@@ -342,31 +365,35 @@ identity_procs =
           Ends None))))))))))))))));
     } ∷
     record {
-      params = (16 ∷ []); rest = None;
+      params = (16 ∷ []);
+      rest = None;
       body =
           Then (at 0 196) (17 ∷ []) (Const 0) (
           Then (at 0 196) (18 ∷ []) (Prim op.WriteChar (17 ∷ [])) (
           Then (at 0 196) (19 ∷ []) (If 16
-            (Then (at 0 196) (20 ∷ []) (Const 1) (
-             Ends (Some 20)))
-            (Then (at 0 196) (21 ∷ []) (Const 2) (
-             Ends (Some 21)))) (
+          (Then (at 0 196) (20 ∷ []) (Const 1) (
+          Ends (Some 20)))
+          (Then (at 0 196) (21 ∷ []) (Const 2) (
+          Ends (Some 21)))) (
           Then (at 0 196) (22 ∷ []) (Prim op.WriteChar (19 ∷ [])) (
           Ends (Some 22)))));
     } ∷
     record {
-      params = (23 ∷ []); rest = None;
+      params = (23 ∷ []);
+      rest = None;
       body =
           Ends (Some 23);
     } ∷
     record {
-      params = []; rest = None;
+      params = [];
+      rest = None;
       body =
           Then (at 1 58) (24 ∷ []) (Closure 4) (
           Ends (Some 24));
     } ∷
     record {
-      params = (25 ∷ []); rest = None;
+      params = (25 ∷ []);
+      rest = None;
       body =
           Ends (Some 25);
     } ∷
@@ -379,7 +406,8 @@ identity = refl
 abbrev symbol_and_division_procs : List Written
 symbol_and_division_procs =
     record {
-      params = []; rest = None;
+      params = [];
+      rest = None;
       body =
           Then (at 0 196) (0 ∷ []) (Closure 1) (
           Then (at 0 196) (1 ∷ []) (TopDefine 0 0) (
@@ -393,22 +421,22 @@ symbol_and_division_procs =
           Then (at 1 52) (9 ∷ []) (Const 10) (
           Then (at 1 44) (10 ∷ []) (Prim op.Eqv (8 ∷ 9 ∷ [])) (
           Then (at 1 40) (11 ∷ []) (If 10
-            (Then (at 1 56) (12 ∷ []) (Const 11) (
-             Ends (Some 12)))
-            (Then (at 1 67) (13 ∷ []) (Const 12) (
-             Then (at 1 59) (14 ∷ []) (Prim op.Eqv (8 ∷ 13 ∷ [])) (
-             Ends (Some 14))))) (
+          (Then (at 1 56) (12 ∷ []) (Const 11) (
+          Ends (Some 12)))
+          (Then (at 1 67) (13 ∷ []) (Const 12) (
+          Then (at 1 59) (14 ∷ []) (Prim op.Eqv (8 ∷ 13 ∷ [])) (
+          Ends (Some 14))))) (
           Then (at 1 36) (15 ∷ []) (If 11
-            (Then (at 1 72) (16 ∷ []) (Const 13) (
-             Ends (Some 16)))
-            (Then (at 1 89) (17 ∷ []) (Const 14) (
-             Then (at 1 81) (18 ∷ []) (Prim op.Eqv (8 ∷ 17 ∷ [])) (
-             Then (at 1 77) (19 ∷ []) (If 18
-               (Then (at 1 93) (20 ∷ []) (Const 15) (
-                Ends (Some 20)))
-               (Then (at 1 99) (21 ∷ []) (Const 16) (
-                Ends (Some 21)))) (
-             Ends (Some 19)))))) (
+          (Then (at 1 72) (16 ∷ []) (Const 13) (
+          Ends (Some 16)))
+          (Then (at 1 89) (17 ∷ []) (Const 14) (
+          Then (at 1 81) (18 ∷ []) (Prim op.Eqv (8 ∷ 17 ∷ [])) (
+          Then (at 1 77) (19 ∷ []) (If 18
+          (Then (at 1 93) (20 ∷ []) (Const 15) (
+          Ends (Some 20)))
+          (Then (at 1 99) (21 ∷ []) (Const 16) (
+          Ends (Some 21)))) (
+          Ends (Some 19)))))) (
           Then (at 1 7) (22 ∷ []) (Prim op.SymbolName (15 ∷ [])) (
           Then (at 1 105) (23 ∷ []) (Const 18) (
           Then (at 1 1) (24 ∷ []) (Call 6 (22 ∷ 23 ∷ [])) (
@@ -430,36 +458,38 @@ symbol_and_division_procs =
           Ends None)))))))))))))))))))))))))))))));
     } ∷
     record {
-      params = (40 ∷ []); rest = None;
+      params = (40 ∷ []);
+      rest = None;
       body =
           Then (at 0 196) (41 ∷ []) (Const 0) (
           Then (at 0 196) (42 ∷ []) (Prim op.Less (40 ∷ 41 ∷ [])) (
           Then (at 0 196) (43 ∷ []) (If 42
-            (Then (at 0 196) (44 ∷ []) (Const 1) (
-             Then (at 0 196) (45 ∷ []) (Prim op.WriteChar (44 ∷ [])) (
-             Then (at 0 196) (46 ∷ []) (TopGet 1 false) (
-             Then (at 0 196) (47 ∷ []) (Call 46 (40 ∷ [])) (
-             Ends (Some 47))))))
-            (Then (at 0 196) (48 ∷ []) (TopGet 1 false) (
-             Then (at 0 196) (49 ∷ []) (Const 2) (
-             Then (at 0 196) (50 ∷ []) (Prim op.Subtract (49 ∷ 40 ∷ [])) (
-             Then (at 0 196) (51 ∷ []) (Call 48 (50 ∷ [])) (
-             Ends (Some 51))))))) (
+          (Then (at 0 196) (44 ∷ []) (Const 1) (
+          Then (at 0 196) (45 ∷ []) (Prim op.WriteChar (44 ∷ [])) (
+          Then (at 0 196) (46 ∷ []) (TopGet 1 false) (
+          Then (at 0 196) (47 ∷ []) (Call 46 (40 ∷ [])) (
+          Ends (Some 47))))))
+          (Then (at 0 196) (48 ∷ []) (TopGet 1 false) (
+          Then (at 0 196) (49 ∷ []) (Const 2) (
+          Then (at 0 196) (50 ∷ []) (Prim op.Subtract (49 ∷ 40 ∷ [])) (
+          Then (at 0 196) (51 ∷ []) (Call 48 (50 ∷ [])) (
+          Ends (Some 51))))))) (
           Ends (Some 43))));
     } ∷
     record {
-      params = (52 ∷ []); rest = None;
+      params = (52 ∷ []);
+      rest = None;
       body =
           Then (at 0 196) (53 ∷ []) (Const 3) (
           Then (at 0 196) (54 ∷ []) (Prim op.Less (53 ∷ 52 ∷ [])) (
           Then (at 0 196) (55 ∷ []) (If 54
-            (Then (at 0 196) (56 ∷ []) (Const 4) (
-             Ends (Some 56)))
-            (Then (at 0 196) (57 ∷ []) (TopGet 1 false) (
-             Then (at 0 196) (58 ∷ []) (Const 5) (
-             Then (at 0 196) (59 ∷ []) (Prim op.Quotient (52 ∷ 58 ∷ [])) (
-             Then (at 0 196) (60 ∷ []) (Call 57 (59 ∷ [])) (
-             Ends (Some 60))))))) (
+          (Then (at 0 196) (56 ∷ []) (Const 4) (
+          Ends (Some 56)))
+          (Then (at 0 196) (57 ∷ []) (TopGet 1 false) (
+          Then (at 0 196) (58 ∷ []) (Const 5) (
+          Then (at 0 196) (59 ∷ []) (Prim op.Quotient (52 ∷ 58 ∷ [])) (
+          Then (at 0 196) (60 ∷ []) (Call 57 (59 ∷ [])) (
+          Ends (Some 60))))))) (
           Then (at 0 196) (61 ∷ []) (Const 6) (
           Then (at 0 196) (62 ∷ []) (Const 7) (
           Then (at 0 196) (63 ∷ []) (Prim op.Remainder (52 ∷ 62 ∷ [])) (
@@ -469,20 +499,21 @@ symbol_and_division_procs =
           Ends (Some 66))))))))));
     } ∷
     record {
-      params = (67 ∷ 68 ∷ []); rest = None;
+      params = (67 ∷ 68 ∷ []);
+      rest = None;
       body =
           Then (at 0 196) (69 ∷ []) (Prim op.StringLength (67 ∷ [])) (
           Then (at 0 196) (70 ∷ []) (Prim op.Equals (68 ∷ 69 ∷ [])) (
           Then (at 0 196) (71 ∷ []) (If 70
-            (Then (at 0 196) (72 ∷ []) (Const 8) (
-             Ends (Some 72)))
-            (Then (at 0 196) (73 ∷ []) (Prim op.StringRef (67 ∷ 68 ∷ [])) (
-             Then (at 0 196) (74 ∷ []) (Prim op.WriteChar (73 ∷ [])) (
-             Then (at 0 196) (75 ∷ []) (TopGet 2 false) (
-             Then (at 0 196) (76 ∷ []) (Const 9) (
-             Then (at 0 196) (77 ∷ []) (Prim op.Add (68 ∷ 76 ∷ [])) (
-             Then (at 0 196) (78 ∷ []) (Call 75 (67 ∷ 77 ∷ [])) (
-             Ends (Some 78))))))))) (
+          (Then (at 0 196) (72 ∷ []) (Const 8) (
+          Ends (Some 72)))
+          (Then (at 0 196) (73 ∷ []) (Prim op.StringRef (67 ∷ 68 ∷ [])) (
+          Then (at 0 196) (74 ∷ []) (Prim op.WriteChar (73 ∷ [])) (
+          Then (at 0 196) (75 ∷ []) (TopGet 2 false) (
+          Then (at 0 196) (76 ∷ []) (Const 9) (
+          Then (at 0 196) (77 ∷ []) (Prim op.Add (68 ∷ 76 ∷ [])) (
+          Then (at 0 196) (78 ∷ []) (Call 75 (67 ∷ 77 ∷ [])) (
+          Ends (Some 78))))))))) (
           Ends (Some 71))));
     } ∷
     []
@@ -499,7 +530,8 @@ symbol_and_division = refl
 abbrev continuations_procs : List Written
 continuations_procs =
     record {
-      params = []; rest = None;
+      params = [];
+      rest = None;
       body =
           Then (at 0 196) (0 ∷ []) (Closure 1) (
           Then (at 0 196) (1 ∷ []) (TopDefine 0 0) (
@@ -525,63 +557,65 @@ continuations_procs =
           Then (at 6 10) (21 ∷ []) (Const 18) (
           Then (at 6 5) (22 ∷ []) (Prim op.Equals (20 ∷ 21 ∷ [])) (
           Then (at 6 1) (23 ∷ []) (If 22
-            (Then (at 6 14) (24 ∷ []) (TopGet 3 false) (
-             Then (at 6 16) (25 ∷ []) (Const 19) (
-             Then (at 6 13) (26 ∷ []) (Call 24 (25 ∷ [])) (
-             Ends (Some 26)))))
-            (Then (at 6 26) (27 ∷ []) (TopGet 4 false) (
-             Then (at 6 28) (28 ∷ []) (Const 20) (
-             Then (at 6 23) (29 ∷ []) (Prim op.Equals (27 ∷ 28 ∷ [])) (
-             Then (at 6 19) (30 ∷ []) (If 29
-               (Then (at 6 32) (31 ∷ []) (TopGet 2 false) (
-                Then (at 6 34) (32 ∷ []) (Const 21) (
-                Then (at 6 31) (33 ∷ []) (Call 31 (32 ∷ [])) (
-                Ends (Some 33)))))
-               (Then (at 6 44) (34 ∷ []) (TopGet 4 false) (
-                Then (at 6 46) (35 ∷ []) (Const 22) (
-                Then (at 6 41) (36 ∷ []) (Prim op.Equals (34 ∷ 35 ∷ [])) (
-                Then (at 6 37) (37 ∷ []) (If 36
-                  (Then (at 6 50) (38 ∷ []) (TopGet 3 false) (
-                   Then (at 6 52) (39 ∷ []) (Const 23) (
-                   Then (at 6 49) (40 ∷ []) (Call 38 (39 ∷ [])) (
-                   Ends (Some 40)))))
-                  (Then (at 6 37) (41 ∷ []) (Const 24) (
-                   Ends (Some 41)))) (
-                Ends (Some 37))))))) (
-             Ends (Some 30))))))) (
+          (Then (at 6 14) (24 ∷ []) (TopGet 3 false) (
+          Then (at 6 16) (25 ∷ []) (Const 19) (
+          Then (at 6 13) (26 ∷ []) (Call 24 (25 ∷ [])) (
+          Ends (Some 26)))))
+          (Then (at 6 26) (27 ∷ []) (TopGet 4 false) (
+          Then (at 6 28) (28 ∷ []) (Const 20) (
+          Then (at 6 23) (29 ∷ []) (Prim op.Equals (27 ∷ 28 ∷ [])) (
+          Then (at 6 19) (30 ∷ []) (If 29
+          (Then (at 6 32) (31 ∷ []) (TopGet 2 false) (
+          Then (at 6 34) (32 ∷ []) (Const 21) (
+          Then (at 6 31) (33 ∷ []) (Call 31 (32 ∷ [])) (
+          Ends (Some 33)))))
+          (Then (at 6 44) (34 ∷ []) (TopGet 4 false) (
+          Then (at 6 46) (35 ∷ []) (Const 22) (
+          Then (at 6 41) (36 ∷ []) (Prim op.Equals (34 ∷ 35 ∷ [])) (
+          Then (at 6 37) (37 ∷ []) (If 36
+          (Then (at 6 50) (38 ∷ []) (TopGet 3 false) (
+          Then (at 6 52) (39 ∷ []) (Const 23) (
+          Then (at 6 49) (40 ∷ []) (Call 38 (39 ∷ [])) (
+          Ends (Some 40)))))
+          (Then (at 6 37) (41 ∷ []) (Const 24) (
+          Ends (Some 41)))) (
+          Ends (Some 37))))))) (
+          Ends (Some 30))))))) (
           Ends None))))))))))))))))))))))));
     } ∷
     record {
-      params = (42 ∷ []); rest = None;
+      params = (42 ∷ []);
+      rest = None;
       body =
           Then (at 0 196) (43 ∷ []) (Const 0) (
           Then (at 0 196) (44 ∷ []) (Prim op.Less (42 ∷ 43 ∷ [])) (
           Then (at 0 196) (45 ∷ []) (If 44
-            (Then (at 0 196) (46 ∷ []) (Const 1) (
-             Then (at 0 196) (47 ∷ []) (Prim op.WriteChar (46 ∷ [])) (
-             Then (at 0 196) (48 ∷ []) (TopGet 1 false) (
-             Then (at 0 196) (49 ∷ []) (Call 48 (42 ∷ [])) (
-             Ends (Some 49))))))
-            (Then (at 0 196) (50 ∷ []) (TopGet 1 false) (
-             Then (at 0 196) (51 ∷ []) (Const 2) (
-             Then (at 0 196) (52 ∷ []) (Prim op.Subtract (51 ∷ 42 ∷ [])) (
-             Then (at 0 196) (53 ∷ []) (Call 50 (52 ∷ [])) (
-             Ends (Some 53))))))) (
+          (Then (at 0 196) (46 ∷ []) (Const 1) (
+          Then (at 0 196) (47 ∷ []) (Prim op.WriteChar (46 ∷ [])) (
+          Then (at 0 196) (48 ∷ []) (TopGet 1 false) (
+          Then (at 0 196) (49 ∷ []) (Call 48 (42 ∷ [])) (
+          Ends (Some 49))))))
+          (Then (at 0 196) (50 ∷ []) (TopGet 1 false) (
+          Then (at 0 196) (51 ∷ []) (Const 2) (
+          Then (at 0 196) (52 ∷ []) (Prim op.Subtract (51 ∷ 42 ∷ [])) (
+          Then (at 0 196) (53 ∷ []) (Call 50 (52 ∷ [])) (
+          Ends (Some 53))))))) (
           Ends (Some 45))));
     } ∷
     record {
-      params = (54 ∷ []); rest = None;
+      params = (54 ∷ []);
+      rest = None;
       body =
           Then (at 0 196) (55 ∷ []) (Const 3) (
           Then (at 0 196) (56 ∷ []) (Prim op.Less (55 ∷ 54 ∷ [])) (
           Then (at 0 196) (57 ∷ []) (If 56
-            (Then (at 0 196) (58 ∷ []) (Const 4) (
-             Ends (Some 58)))
-            (Then (at 0 196) (59 ∷ []) (TopGet 1 false) (
-             Then (at 0 196) (60 ∷ []) (Const 5) (
-             Then (at 0 196) (61 ∷ []) (Prim op.Quotient (54 ∷ 60 ∷ [])) (
-             Then (at 0 196) (62 ∷ []) (Call 59 (61 ∷ [])) (
-             Ends (Some 62))))))) (
+          (Then (at 0 196) (58 ∷ []) (Const 4) (
+          Ends (Some 58)))
+          (Then (at 0 196) (59 ∷ []) (TopGet 1 false) (
+          Then (at 0 196) (60 ∷ []) (Const 5) (
+          Then (at 0 196) (61 ∷ []) (Prim op.Quotient (54 ∷ 60 ∷ [])) (
+          Then (at 0 196) (62 ∷ []) (Call 59 (61 ∷ [])) (
+          Ends (Some 62))))))) (
           Then (at 0 196) (63 ∷ []) (Const 6) (
           Then (at 0 196) (64 ∷ []) (Const 7) (
           Then (at 0 196) (65 ∷ []) (Prim op.Remainder (54 ∷ 64 ∷ [])) (
@@ -591,7 +625,8 @@ continuations_procs =
           Ends (Some 68))))))))));
     } ∷
     record {
-      params = []; rest = None;
+      params = [];
+      rest = None;
       body =
           Then (at 2 19) (69 ∷ []) (Const 11) (
           Then (at 2 54) (70 ∷ []) (Closure 4) (
@@ -603,26 +638,28 @@ continuations_procs =
           Ends (Some 75))))))));
     } ∷
     record {
-      params = (76 ∷ []); rest = None;
+      params = (76 ∷ []);
+      rest = None;
       body =
           Then (at 2 73) (77 ∷ []) (TopSet 2 76 false) (
           Then (at 2 84) (78 ∷ []) (Const 12) (
           Ends (Some 78)));
     } ∷
     record {
-      params = (79 ∷ []); rest = None;
+      params = (79 ∷ []);
+      rest = None;
       body =
           Then (at 3 63) (80 ∷ []) (TopGet 3 false) (
           Then (at 3 58) (81 ∷ []) (If 80
-            (Then (at 3 58) (82 ∷ []) (Const 13) (
-             Ends (Some 82)))
-            (Then (at 3 58) (83 ∷ []) (Const 14) (
-             Ends (Some 83)))) (
+          (Then (at 3 58) (82 ∷ []) (Const 13) (
+          Ends (Some 82)))
+          (Then (at 3 58) (83 ∷ []) (Const 14) (
+          Ends (Some 83)))) (
           Then (at 3 54) (84 ∷ []) (If 81
-            (Then (at 3 66) (85 ∷ []) (TopSet 3 79 false) (
-             Ends (Some 85)))
-            (Then (at 3 54) (86 ∷ []) (Const 15) (
-             Ends (Some 86)))) (
+          (Then (at 3 66) (85 ∷ []) (TopSet 3 79 false) (
+          Ends (Some 85)))
+          (Then (at 3 54) (86 ∷ []) (Const 15) (
+          Ends (Some 86)))) (
           Then (at 3 78) (87 ∷ []) (Const 16) (
           Ends (Some 87)))));
     } ∷
@@ -635,7 +672,8 @@ continuations = refl
 abbrev applied_procs : List Written
 applied_procs =
     record {
-      params = []; rest = None;
+      params = [];
+      rest = None;
       body =
           Then (at 1 1) (0 ∷ []) (Closure 1) (
           Then (at 1 1) (1 ∷ []) (TopDefine 0 0) (
@@ -652,12 +690,14 @@ applied_procs =
           Ends None))))))))))));
     } ∷
     record {
-      params = []; rest = Some 12;
+      params = [];
+      rest = Some 12;
       body =
           Ends (Some 12);
     } ∷
     record {
-      params = (13 ∷ []); rest = Some 14;
+      params = (13 ∷ []);
+      rest = Some 14;
       body =
           Then (at 1 47) (15 ∷ []) (Prim op.Car (14 ∷ [])) (
           Ends (Some 15));
@@ -667,3 +707,6 @@ applied_procs =
 applied : seen applied_procs (lit.Char 97 ∷ lit.Char 98 ∷ lit.Char 99 ∷ []) quiet 300 ≡ stops (codes "b") End
 applied = refl
 
+-- A tail call makes no return point: the first call of the loop makes one, those in it none.
+loop_points : points_made loop_procs (lit.Integer (pos 9) ∷ lit.Integer (pos 7) ∷ lit.Integer (pos 1) ∷ lit.Integer (pos 0) ∷ []) quiet 300 ≡ 1
+loop_points = refl

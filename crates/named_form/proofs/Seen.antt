@@ -1,5 +1,6 @@
 -- What is seen of a run of a program in named form.
 use Rattle.std.proofs.Common.{ℕ, List, [], ◌∷◌, Option, Some, None}
+use Rattle.std.specs.Prelude.{length}
 use Rattle.scheme_base.specs.declared.env.Env.{Env}
 use Rattle.scheme_base.specs.declared.lit.Lit.{Lit}
 use Rattle.scheme_base.specs.declared.pos.Pos.{Pos}
@@ -44,3 +45,7 @@ stops written stop = record { written = written; stop = Some stop }
 -- calls with their answers, the newest first
 abbrev pub calls : List Written → List Lit → Env → ℕ → List Event
 calls procs lits env steps = trace_of (state procs lits env steps)
+
+-- how many return points a run has made
+abbrev pub points_made : List Written → List Lit → Env → ℕ → ℕ
+points_made procs lits env steps = length (state procs lits env steps).world.points

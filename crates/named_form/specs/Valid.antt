@@ -1,5 +1,5 @@
 -- Valid programs in named form, part by part.
-use Rattle.std.specs.Prelude.{ℕ, zero, suc, ◌<◌, ◌≤◌, ◌≡◌, List, [], ◌∷◌, ◌++◌, length, slice_get, Option, Some, None, true, false, nat_eq}
+use Rattle.std.specs.Prelude.{ℕ, zero, suc, ◌<◌, ◌≤◌, ◌≡◌, List, [], ◌∷◌, ◌++◌, length, slice_get, Option, Some, None, false, nat_eq}
 use Rattle.std.specs.List.{All, Contains, IsDistinct, flat_map}
 use Rattle.std.specs.Map.{lookup}
 use Rattle.scheme_base.specs.declared.env.Env.{Env}

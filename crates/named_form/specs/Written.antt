@@ -1,5 +1,5 @@
 -- Which program the public types stand for.
-use Rattle.std.specs.Prelude.{ℕ, List, [], ◌∷◌, map}
+use Rattle.std.specs.Prelude.{List, [], ◌∷◌, map}
 use Rattle.scheme_base.specs.declared.pos.Pos.{Pos}
 use Rattle.named_form.specs.declared.program.Act.TheOpen as open_act
 use Rattle.named_form.specs.declared.program.Block.{Block, Block-F, fold-Block}

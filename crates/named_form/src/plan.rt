@@ -1,6 +1,6 @@
 use scheme_base::{Ids, List, Mark, Stated, Uses};
 
-/// Sites: what a closure's procedure, a rest list's procedure or a step makes. A list of them rises.
+/// A list of sites, which rises: places of the program that make objects, numbered as `specs/Code` says.
 pub type Sites = Ids;
 
 /// Where the objects of each site are made.
@@ -59,7 +59,7 @@ pub type Flags = List<bool>;
 /// The use of each step, in the order of the walk.
 pub type StepUses = List<StepUse>;
 
-/// How values are held, and what is reached. Blocks and steps are numbered as `specs/Numbers` says.
+/// How values are held, and what is reached. `specs/Code` says how blocks and steps are numbered.
 #[derive(Debug, Drop)]
 pub struct Reprs {
     pub vars: ReprList,
