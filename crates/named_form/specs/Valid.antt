@@ -1,6 +1,6 @@
 -- Valid programs in named form, part by part.
-use Rattle.std.specs.Prelude.{ℕ, zero, suc, ◌<◌, ◌≤◌, ◌≡◌, List, [], ◌∷◌, ◌++◌, length, slice_get, Option, Some, None, false, nat_eq}
-use Rattle.std.specs.List.{All, Contains, IsDistinct, flat_map}
+use Rattle.std.specs.Prelude.{ℕ, zero, suc, ◌<◌, ◌≡◌, List, [], ◌∷◌, ◌++◌, length, slice_get, Option, Some, None, is_some, Bool, true, false, IsTrue, nat_eq}
+use Rattle.std.specs.List.{AllByRecursion, IsDistinct, flat_map}
 use Rattle.std.specs.Map.{lookup}
 use Rattle.scheme_base.specs.declared.env.Env.{Env}
 use Rattle.scheme_base.specs.declared.lit.Lit.{Lit}
@@ -10,8 +10,8 @@ use Rattle.scheme_base.specs.declared.pos.Pos.{Pos}
 use Rattle.scheme_base.specs.Literals.{Constant, Hole, Laid, IsPart}
 use Rattle.scheme_base.specs.Operands.{operands_of}
 use Rattle.scheme_base.specs.Runs.{after}
-use Rattle.scheme_base.specs.Values.{Undefined}
-use Rattle.named_form.specs.Code.{Code, Ends, Then, Deed, Const, Prim, If, Closure, Fix, MakeBox, MakeHole, Unbox, SetBox, TopGet, TopSet, TopDefine, Label, Written, bound_in, reads, option_list, closes, closes_in, free_in, program}
+use Rattle.scheme_base.specs.Values.{Value, Undefined}
+use Rattle.named_form.specs.Code.{Code, Ends, Then, Deed, Const, Prim, If, Closure, Fix, MakeBox, MakeHole, Unbox, SetBox, TopGet, TopSet, TopDefine, Label, Written, bound_in, reads, option_list, closes, closes_in, free_in, but_first, has, program}
 use Rattle.named_form.specs.NamedRun.{State, machine, start, content, box_at, value_of}
 
 -- a program in named form: its procedures, how many top-level variables it has, and its literals
@@ -49,7 +49,7 @@ AnyValue value = Unit {0}
 abbrev pub NamesIn : Form → OfSteps
 NamesIn f vars (Const l) = l < length f.lits
 NamesIn f vars (Closure q) = q < length f.procs
-NamesIn f vars (Fix qs) = All (λ q. q < length f.procs) qs
+NamesIn f vars (Fix qs) = AllByRecursion (λ q. q < length f.procs) qs
 NamesIn f vars (TopGet g checked) = g < f.tops
 NamesIn f vars (TopSet g y checked) = g < f.tops
 NamesIn f vars (TopDefine g y) = g < f.tops
@@ -89,27 +89,27 @@ IsProgram (Then place vars deed rest) = ThroughoutArms NoDefinition IsThere deed
 abbrev pub Bodies : List Written → Type 0
 Bodies [] = ⊥
 Bodies (p ∷ ps) =
-    (p.params ≡ []) × (p.rest ≡ None) × IsProgram p.body × All (λ q. Throughout NoDefinition IsThere q.body) ps
+    (p.params ≡ []) × (p.rest ≡ None) × IsProgram p.body × AllByRecursion (λ q. Throughout NoDefinition IsThere q.body) ps
+
+abbrev pub numbers_from : ℕ → (many : ℕ) → List ℕ
+numbers_from n zero = []
+numbers_from n (suc many) = n ∷ numbers_from (suc n) many
 
 -- Each procedure but 0 is made by one step, of a procedure before it.
 
 abbrev pub LaterOnes : (number : ℕ) → List Written → Type 0
 LaterOnes n [] = Unit {0}
-LaterOnes n (p ∷ ps) = All (λ q. n < q) (closes_in p.body) × LaterOnes (suc n) ps
+LaterOnes n (p ∷ ps) = AllByRecursion (λ q. n < q) (closes_in p.body) × LaterOnes (suc n) ps
 
 abbrev pub all_made : List Written → List ℕ
 all_made ps = flat_map (λ p. closes_in p.body) ps
 
 pub record Made (ps : List Written) : Type 0 where
   pub once : IsDistinct nat_eq (all_made ps)
-  pub each : (q : ℕ) → 1 ≤ q → q < length ps → Contains (all_made ps) q
+  pub each : AllByRecursion (λ q. IsTrue (has (all_made ps) q)) (numbers_from 1 (length (but_first ps)))
   pub later : LaterOnes 0 ps
 
 -- Local variables are bound at one place, and are numbered in the order of the procedures and their steps.
-
-abbrev pub numbers_from : ℕ → (many : ℕ) → List ℕ
-numbers_from n zero = []
-numbers_from n (suc many) = n ∷ numbers_from (suc n) many
 
 abbrev pub Numbered : List Written → Type 0
 Numbered ps = let xs = flat_map bound_in ps in xs ≡ numbers_from 0 (length xs)
@@ -122,7 +122,7 @@ scope_with (Fix qs) vars xs = vars ++ xs
 scope_with deed vars xs = xs
 
 abbrev pub BoundBefore : (own scope : List ℕ) → List ℕ → Type 0
-BoundBefore own xs ys = All (λ y. Contains own y → Contains xs y) ys
+BoundBefore own xs ys = AllByRecursion (λ y. IsTrue (has own y) → IsTrue (has xs y)) ys
 
 abbrev mutual
   pub InScope : List Written → (own scope : List ℕ) → Code Pos → Type 0
@@ -139,7 +139,7 @@ abbrev mutual
 
 pub record Scoped (ps : List Written) : Type 0 where
   pub closed : free_in (length ps) ps 0 ≡ []
-  pub inside : All (λ p. InScope ps (bound_in p) (p.params ++ option_list p.rest) p.body) ps
+  pub inside : AllByRecursion (λ p. InScope ps (bound_in p) (p.params ++ option_list p.rest) p.body) ps
 
 -- Boxes: a variable that is bound to a box is read as one, and nothing else is.
 
@@ -158,17 +158,17 @@ abbrev mutual
   boxes_in_arms deed = []
 
 abbrev pub None_of : List ℕ → List ℕ → Type 0
-None_of boxes ys = All (λ y. Contains boxes y → ⊥) ys
+None_of boxes ys = AllByRecursion (λ y. has boxes y ≡ false) ys
 
 abbrev pub ReadsBoxes : (boxes : List ℕ) → OfSteps
-ReadsBoxes boxes vars (Unbox b checked) = Contains boxes b
-ReadsBoxes boxes vars (SetBox b y) = Contains boxes b × None_of boxes (y ∷ [])
+ReadsBoxes boxes vars (Unbox b checked) = IsTrue (has boxes b)
+ReadsBoxes boxes vars (SetBox b y) = IsTrue (has boxes b) × None_of boxes (y ∷ [])
 ReadsBoxes boxes vars deed = None_of boxes (reads deed)
 
 abbrev pub Boxes : List Written → Type 0
 Boxes ps =
     let boxes = flat_map (λ p. boxes_in p.body) ps in
-    All (λ p. Throughout (ReadsBoxes boxes) (λ value. None_of boxes (option_list value)) p.body) ps
+    AllByRecursion (λ p. Throughout (ReadsBoxes boxes) (λ value. None_of boxes (option_list value)) p.body) ps
 
 -- Literals: they are constants, one after another; each constant is laid out by itself and is named by one
 -- step at most. The undefined value stands alone, and no step names it.
@@ -202,15 +202,15 @@ all_constants ps = flat_map (λ p. constants_in p.body) ps
 pub record Literals (f : Form) : Type 0 where
   pub firsts : List ℕ
   pub laid : AreConstants f.lits 0 firsts (length f.lits)
-  pub named : All (Contains firsts) (all_constants f.procs)
+  pub named : AllByRecursion (λ l. IsTrue (has firsts l)) (all_constants f.procs)
   pub apart : IsDistinct nat_eq (all_constants f.procs)
-  pub defined : All (λ l. slice_get f.lits l ≡ Some lit.Undefined → ⊥) (all_constants f.procs)
+  pub defined : AllByRecursion (λ l. slice_get f.lits l ≡ Some lit.Undefined → ⊥) (all_constants f.procs)
 
 -- all that is said of the text of a program
 pub record WellFormed (f : Form) : Type 0 where
-  pub names : All (λ p. Throughout (NamesIn f) AnyValue p.body) f.procs
-  pub binds : All (λ p. Throughout Binds AnyValue p.body) f.procs
-  pub takes : All (λ p. Throughout Takes AnyValue p.body) f.procs
+  pub names : AllByRecursion (λ p. Throughout (NamesIn f) AnyValue p.body) f.procs
+  pub binds : AllByRecursion (λ p. Throughout Binds AnyValue p.body) f.procs
+  pub takes : AllByRecursion (λ p. Throughout Takes AnyValue p.body) f.procs
   pub bodies : Bodies f.procs
   pub made : Made f.procs
   pub numbered : Numbered f.procs
@@ -220,24 +220,26 @@ pub record WellFormed (f : Form) : Type 0 where
 
 -- What a step takes without a check is there.
 
-abbrev pub Sure : State → Deed Label → Type 0
-Sure s (Unbox b false) = content (box_at s.world (value_of s.now.activation.vars b)) ≡ Undefined → ⊥
-Sure s (TopGet g false) = lookup (nat_eq g) s.world.tops ≡ None → ⊥
-Sure s (TopSet g y false) = lookup (nat_eq g) s.world.tops ≡ None → ⊥
-Sure s deed = Unit {0}
+abbrev pub is_defined : Value → Bool
+is_defined Undefined = false
+is_defined v = true
 
-abbrev pub SureNext : State → Code Label → Type 0
-SureNext s (Ends value) = Unit {0}
-SureNext s (Then l vars deed rest) = Sure s deed
+abbrev pub sure : State → Deed Label → Bool
+sure s (Unbox b false) = is_defined (content (box_at s.world (value_of s.now.activation.vars b)))
+sure s (TopGet g false) = is_some (lookup (nat_eq g) s.world.tops)
+sure s (TopSet g y false) = is_some (lookup (nat_eq g) s.world.tops)
+sure s deed = true
 
--- no run takes without a check what is not there
-abbrev pub AlwaysSure : Form → Type 0
-AlwaysSure f =
-    (env : Env) (n : ℕ)
-    → (let p = program f.procs f.lits in
-    let s = after (machine p env) n (start p env) in
-    SureNext s s.now.block)
+abbrev pub sure_of : State → Code Label → Bool
+sure_of s (Ends value) = true
+sure_of s (Then l vars deed rest) = sure s deed
+
+-- the step that is next takes nothing without a check that is not there
+abbrev pub sure_next : State → Bool
+sure_next s = sure_of s s.now.block
 
 pub record Valid (f : Form) : Type 0 where
   pub form : WellFormed f
-  pub sure : AlwaysSure f
+  pub sure :
+      (env : Env) (n : ℕ)
+      → IsTrue (sure_next (after (machine (program f.procs f.lits) env) n (start (program f.procs f.lits) env)))
