@@ -6,7 +6,7 @@
 ghost use Rattle.std.specs.Prelude.{IfOk};
 ghost use Rattle.rv_emulator.specs.Loading.{IsLoadable};
 
-use rv_emulator::{load, RunEnd};
+use rv_emulator::{RunEnd, load};
 use rv_form::{Image, Segment, Segments};
 use scheme_base::Bytes;
 use stalin_outside::MemConsole;
