@@ -2,6 +2,7 @@ mod Always
 mod Broken
 mod Errors
 mod Examples
+pub mod Halts
 pub mod Held
 pub mod Plans
 pub mod Seen

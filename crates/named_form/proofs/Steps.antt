@@ -15,6 +15,7 @@ use Rattle.scheme_base.proofs.Runs.{Steady}
 use Rattle.named_form.specs.Code.{Program}
 use Rattle.named_form.specs.NamedRun.{Callee, Maker, Entry, Boxed, World, State, store, box_at, box_number, with_content, step_from, step, trace_of, ending_from, ending_of, machine, output}
 use Rattle.named_form.specs.Laws.{outline, lasting, maker_of, Keeps, Goes}
+use Rattle.named_form.proofs.Halts.{holds}
 use Rattle.named_form.proofs.Worlds.{Stable, step_world}
 
 -- traces
@@ -194,6 +195,7 @@ goes p env s =
     let out = written (trace_of s) (trace_of (step p env s)) (grows p env s) in
     record {
       stays = stays p env s;
+      holds = holds p env s;
       grows = grows p env s;
       keeps = keeps p env s;
       more_written = out.more;

@@ -2,6 +2,7 @@
 use Rattle.std.specs.Prelude.{ℕ, ◌≤◌, ◌≡◌, List, ◌++◌, length, map, Some}
 use Rattle.scheme_base.specs.declared.env.Env.{Env}
 use Rattle.scheme_base.specs.Outside.{Ending}
+use Rattle.scheme_base.specs.Stops.{Stop}
 use Rattle.scheme_base.specs.Values.{Thing, Datum, Procedure, Blank}
 use Rattle.scheme_base.specs.Laws.{GrowsByOne}
 use Rattle.named_form.specs.Code.{Program}
@@ -28,10 +29,20 @@ pub record Keeps (before after : World) : Type 0 where
   pub points : after.points ≡ before.points ++ more_points
   pub started : before.started ≤ after.started
 
--- A step is defined on each state. It makes one call at most on channels 0 and 1, and a state that has
--- stopped stays.
+-- A state holds what another does, channels aside.
+pub record HoldsAsMuch (before after : State) : Type 0 where
+  pub now : after.now ≡ before.now
+  pub entries : after.world.entries ≡ before.world.entries
+  pub boxes : after.world.boxes ≡ before.world.boxes
+  pub points : after.world.points ≡ before.world.points
+  pub started : after.world.started ≡ before.world.started
+  pub tops : after.world.tops ≡ before.world.tops
+
+-- A step is defined on each state. It makes one call at most on channels 0 and 1. A state that has stopped
+-- stays, and it holds what the state before held.
 pub record Goes (p : Program) (env : Env) (s : State) : Type 0 where
   pub stays : (e : Ending) → ending_of s ≡ Some e → step p env s ≡ s
+  pub holds : (stop : Stop) → (step p env s).stop ≡ Some stop → HoldsAsMuch s (step p env s)
   pub grows : GrowsByOne (trace_of s) (trace_of (step p env s))
   pub keeps : Keeps s.world (step p env s).world
   pub more_written : List ℕ
