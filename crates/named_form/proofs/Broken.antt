@@ -45,7 +45,7 @@ abbrev one : List Lit
 one = lit.Integer (pos 1) ∷ []
 
 abbrev escaping_pair_plan : Plan
-escaping_pair_plan = plan 6 2 ([] ∷ [] ∷ []) (Global ∷ Local ∷ [])
+escaping_pair_plan = plan escaping_pair_procs ([] ∷ [] ∷ []) (Global ∷ Local ∷ [])
 
 escaping_pair : fails escaping_pair_plan escaping_pair_procs one 20 ≡ Pointers ∷ []
 escaping_pair = refl
@@ -54,7 +54,7 @@ escaping_pair_is_refused : ValidPlan escaping_pair_plan (program escaping_pair_p
 escaping_pair_is_refused v = never (v.pointers quiet 7)
 
 -- where it stays, nothing fails
-escaping_pair_stays : fails (plan 6 2 ([] ∷ [] ∷ []) (Global ∷ Global ∷ [])) escaping_pair_procs one 20 ≡ []
+escaping_pair_stays : fails (plan escaping_pair_procs ([] ∷ [] ∷ []) (Global ∷ Global ∷ [])) escaping_pair_procs one 20 ≡ []
 escaping_pair_stays = refl
 
 -- (define (f x) (let ((g (lambda () x))) (g)))(f 1): a tail call of a local closure
@@ -84,7 +84,7 @@ local_closure_procs =
     []
 
 abbrev local_closure_plan : Plan
-local_closure_plan = plan 8 3 ([] ∷ [] ∷ (5 ∷ []) ∷ []) (Global ∷ Local ∷ [])
+local_closure_plan = plan local_closure_procs ([] ∷ [] ∷ (5 ∷ []) ∷ []) (Global ∷ Local ∷ [])
 
 local_closure : fails local_closure_plan local_closure_procs one 20 ≡ Pointers ∷ []
 local_closure = refl
@@ -92,7 +92,7 @@ local_closure = refl
 local_closure_is_refused : ValidPlan local_closure_plan (program local_closure_procs one) → ⊥
 local_closure_is_refused v = never (v.pointers quiet 8)
 
-closure_stays : fails (plan 8 3 ([] ∷ [] ∷ (5 ∷ []) ∷ []) (Global ∷ Global ∷ [])) local_closure_procs one 20 ≡ []
+closure_stays : fails (plan local_closure_procs ([] ∷ [] ∷ (5 ∷ []) ∷ []) (Global ∷ Global ∷ [])) local_closure_procs one 20 ≡ []
 closure_stays = refl
 
 -- (define (f x) (%apply g (%cons x '())))(define (g y) y)(f 1): a tail call with a local list
@@ -128,7 +128,7 @@ abbrev nil_and_one : List Lit
 nil_and_one = lit.Nil ∷ lit.Integer (pos 1) ∷ []
 
 abbrev local_list_plan : Plan
-local_list_plan = plan 11 3 ([] ∷ [] ∷ [] ∷ []) (Global ∷ Global ∷ Local ∷ [])
+local_list_plan = plan local_list_procs ([] ∷ [] ∷ [] ∷ []) (Global ∷ Global ∷ Local ∷ [])
 
 local_list : fails local_list_plan local_list_procs nil_and_one 20 ≡ Lists ∷ []
 local_list = refl
@@ -136,7 +136,7 @@ local_list = refl
 local_list_is_refused : ValidPlan local_list_plan (program local_list_procs nil_and_one) → ⊥
 local_list_is_refused v = never (v.lists quiet 10)
 
-list_stays : fails (plan 11 3 ([] ∷ [] ∷ [] ∷ []) (Global ∷ Global ∷ Global ∷ [])) local_list_procs nil_and_one 20 ≡ []
+list_stays : fails (plan local_list_procs ([] ∷ [] ∷ [] ∷ []) (Global ∷ Global ∷ Global ∷ [])) local_list_procs nil_and_one 20 ≡ []
 list_stays = refl
 
 -- a step that runs is called unreached
@@ -160,10 +160,10 @@ unchecked_procs =
     } ∷
     []
 
-unchecked : fails (record (plan 2 1 ([] ∷ []) []) { reprs = record { vars = []; blocks = true ∷ []; steps = used ∷ record { reached = true; checked = false } ∷ [] } }) unchecked_procs (lit.Nil ∷ []) 20 ≡ Checks ∷ []
+unchecked : fails (record (plan unchecked_procs ([] ∷ []) []) { reprs = record { vars = []; blocks = true ∷ []; steps = used ∷ record { reached = true; checked = false } ∷ [] } }) unchecked_procs (lit.Nil ∷ []) 20 ≡ Checks ∷ []
 unchecked = refl
 
-checked : fails (plan 2 1 ([] ∷ []) []) unchecked_procs (lit.Nil ∷ []) 20 ≡ []
+checked : fails (plan unchecked_procs ([] ∷ []) []) unchecked_procs (lit.Nil ∷ []) 20 ≡ []
 checked = refl
 
 -- a variable that is stated to be another value, and one that holds no integer where it is to be bare
@@ -201,7 +201,7 @@ told_procs =
     []
 
 abbrev told_plan : Plan
-told_plan = plan 8 3 ([] ∷ [] ∷ [] ∷ []) (Global ∷ Global ∷ [])
+told_plan = plan told_procs ([] ∷ [] ∷ [] ∷ []) (Global ∷ Global ∷ [])
 
 told_apart : fails told_plan told_procs [] 20 ≡ Compared ∷ []
 told_apart = refl

@@ -6,12 +6,11 @@ use Rattle.scheme_base.specs.declared.env.Env.{Env}
 use Rattle.scheme_base.specs.declared.op.Op.{Op}
 use Rattle.scheme_base.specs.declared.op.Op.TheVariants as op
 use Rattle.scheme_base.specs.declared.pos.Pos.{Pos}
-use Rattle.scheme_base.specs.declared.error.ErrKind.TheVariants as kind
 use Rattle.scheme_base.specs.Values.{Value, Undefined, Thing, Datum, Procedure}
 use Rattle.scheme_base.specs.Operations.{Outcome, Answers, Makes, Changes, Passes, Applies, Captures, Fails, Breaks, operate, sight, number_of, takes}
 use Rattle.scheme_base.specs.Stops.{Stop, End, Error}
 use Rattle.named_form.specs.Code.{Code, Ends, Then, Deed, Const, Copy, Prim, Call, Apply, CallCC, If, Closure, Fix, MakeBox, MakeHole, Unbox, SetBox, TopGet, TopSet, TopDefine, Label, Program, Lambda}
-use Rattle.named_form.specs.NamedRun.{Vars, Open, Point, Callee, Closes, Continues, Maker, Entry, World, State, Leaving, Place, stopped, value_of, values_of, entry, with_entry, next, store, leave, is_tail, enter, entered, enter_closure, return, resume, call_thing, call_of, call, entry_at, maker, leaves, capture, carry, perform, content, box_at, unbox, top_get, top_set, act, option_value, finish, go, step_from, step}
+use Rattle.named_form.specs.NamedRun.{Vars, Open, Point, Callee, Closes, Continues, Maker, Entry, World, State, Leaving, Place, stopped, value_of, values_of, next, store, leave, is_tail, enter, entered, enter_closure, return, resume, call_thing, call_of, call, entry_at, maker, leaves, capture, carry, perform, content, box_at, unbox, top_get, top_set, act, option_value, finish, go, step_from, step}
 use Rattle.named_form.specs.Laws.{HoldsAsMuch}
 
 -- a state goes on, or it holds what the other held
@@ -42,11 +41,11 @@ enter_halts s p (Some x) q f kept vs c = inl refl
 
 entered_halts : (s : State) (b : Bool) (c : Leaving) (t : State) → c.before ≡ s → Halts s t → Halts s (entered b c t)
 entered_halts s true c t h k = k
-entered_halts s false c t h k = refused s c (Error kind.Count c.place) h
+entered_halts s false c t h k = refused s c _ h
 
 enter_closure_halts : (s : State) (o : Option Lambda) (q f : ℕ) (kept : Vars) (vs : List Value) (c : Leaving)
     → c.before ≡ s → Halts s (enter_closure o q f kept vs c)
-enter_closure_halts s None q f kept vs c h = refused s c (Error kind.NotProcedure c.place) h
+enter_closure_halts s None q f kept vs c h = refused s c _ h
 enter_closure_halts s (Some p) q f kept vs c h =
     entered_halts s (takes (length p.params) (is_some p.rest) (length vs)) c (enter p p.rest q f kept vs c) h
     (enter_halts s p p.rest q f kept vs c)
@@ -56,19 +55,19 @@ return_halts s [] v w t h = subst (λ t. Halts s (stopped End t)) (sym h) (halte
 return_halts s (p ∷ ps) v w t h = inl refl
 
 resume_halts : (s : State) (ps : List Point) (vs : List Value) (c : Leaving) → c.before ≡ s → Halts s (resume ps vs c)
-resume_halts s ps [] c h = refused s c (Error kind.Count c.place) h
+resume_halts s ps [] c h = refused s c _ h
 resume_halts s ps (v ∷ []) c h = return_halts s ps v c.world c.before h
-resume_halts s ps (v ∷ u ∷ vs) c h = refused s c (Error kind.Count c.place) h
+resume_halts s ps (v ∷ u ∷ vs) c h = refused s c _ h
 
 call_thing_halts : (s : State) (p : Program) (t : Thing Callee) (f : ℕ) (vs : List Value) (c : Leaving)
     → c.before ≡ s → Halts s (call_thing p t f vs c)
-call_thing_halts s p (Datum o d) f vs c h = refused s c (Error kind.NotProcedure c.place) h
+call_thing_halts s p (Datum o d) f vs c h = refused s c _ h
 call_thing_halts s p (Procedure (Closes q kept)) f vs c h = enter_closure_halts s (slice_get p.procs q) q f kept vs c h
 call_thing_halts s p (Procedure (Continues points)) f vs c h = resume_halts s points vs c h
 
 call_of_halts : (s : State) (p : Program) (o : Option Entry) (f : ℕ) (vs : List Value) (c : Leaving)
     → c.before ≡ s → Halts s (call_of p o f vs c)
-call_of_halts s p None f vs c h = refused s c (Error kind.NotProcedure c.place) h
+call_of_halts s p None f vs c h = refused s c _ h
 call_of_halts s p (Some e) f vs c h = call_thing_halts s p e.thing f vs c h
 
 call_halts : (s : State) (p : Program) (f : Value) (vs : List Value) (c : Leaving) → c.before ≡ s → Halts s (call p f vs c)
@@ -76,8 +75,7 @@ call_halts s p f vs c h = call_of_halts s p (entry_at c.world f) (number_of f) v
 
 capture_halts : (s : State) (p : Program) (f : Value) (m : Maker) (c : Leaving) → c.before ≡ s → Halts s (capture p f m c)
 capture_halts s p f m c h =
-    call_halts s p f (next c.world ∷ [])
-    (record c { world = with_entry (entry m (Procedure (Continues c.points))) c.world }) h
+    call_halts s p f (next c.world ∷ []) _ h
 
 carry_halts : (p : Program) (outcome : Outcome) (at : Place) (s : State) → s.stop ≡ None → Halts s (carry p outcome at s)
 carry_halts p (Answers v) at s h = inl h
@@ -96,15 +94,15 @@ perform_halts p env o vs at s h =
     carry_halts p (operate env (sight (store (maker at.label s)) s.world.entries) s.world.channels o vs) at s h
 
 unbox_halts : (v : Value) (at : Place) (s : State) → s.stop ≡ None → Halts s (unbox v at s)
-unbox_halts Undefined at s h = halted s (Error kind.Undefined at.label.place)
+unbox_halts Undefined at s h = halted s _
 unbox_halts v at s h = inl h
 
 top_get_halts : (o : Option Value) (at : Place) (s : State) → s.stop ≡ None → Halts s (top_get o at s)
-top_get_halts None at s h = halted s (Error kind.Unbound at.label.place)
+top_get_halts None at s h = halted s _
 top_get_halts (Some v) at s h = inl h
 
 top_set_halts : (o : Option Value) (g : ℕ) (v : Value) (at : Place) (s : State) → s.stop ≡ None → Halts s (top_set o g v at s)
-top_set_halts None g v at s h = halted s (Error kind.Unbound at.label.place)
+top_set_halts None g v at s h = halted s _
 top_set_halts (Some old) g v at s h = inl h
 
 act_halts : (p : Program) (env : Env) (deed : Deed Label) (xs : List ℕ) (at : Place) (s : State)

@@ -2,7 +2,7 @@
 --
 -- A frame of a procedure that binds v variables, all of them in the frame, has 8(2 + 1 + v) bytes.
 use Rattle.std.proofs.Common.{◌≡◌, List, [], ◌∷◌, Some, None, refl}
-use Rattle.std.specs.Prelude.{pos, false}
+use Rattle.std.specs.Prelude.{pos, false, replicate}
 use Rattle.scheme_base.specs.declared.lit.Lit.{Lit}
 use Rattle.scheme_base.specs.declared.lit.Lit.TheVariants as lit
 use Rattle.scheme_base.specs.declared.op.Op.TheVariants as op
@@ -49,7 +49,7 @@ abbrev pub frames_lits : List Lit
 frames_lits = lit.Integer (pos 3) ∷ lit.Integer (pos 1) ∷ []
 
 abbrev pub frames_plan : Plan
-frames_plan = plan 11 3 ([] ∷ [] ∷ [] ∷ []) (Global ∷ Global ∷ [])
+frames_plan = plan frames_procs ([] ∷ [] ∷ [] ∷ []) (Global ∷ Global ∷ [])
 
 frames_start : held frames_plan frames_procs frames_lits 0 ≡ 80
 frames_start = refl
@@ -86,7 +86,7 @@ short_plan =
                 ∷ [];
           };
       reprs =
-          record frames_plan.reprs { vars = repr.Nothing ∷ repr.Nothing ∷ repr.Nothing ∷ repr.Nothing ∷ [] };
+          record frames_plan.reprs { vars = repr.Nothing ∷ repr.Nothing ∷ repr.Nothing ∷ repr.Nothing ∷ replicate 9 repr.Tagged };
     }
 
 short_g : held short_plan frames_procs frames_lits 9 ≡ 144
@@ -128,7 +128,7 @@ abbrev pub tail_lits : List Lit
 tail_lits = lit.Integer (pos 3) ∷ []
 
 abbrev pub tail_plan : Plan
-tail_plan = plan 9 3 ([] ∷ [] ∷ [] ∷ []) (Global ∷ Global ∷ [])
+tail_plan = plan tail_procs ([] ∷ [] ∷ [] ∷ []) (Global ∷ Global ∷ [])
 
 -- f runs: 48 + 80
 tail_f : held tail_plan tail_procs tail_lits 7 ≡ 128
@@ -174,10 +174,10 @@ abbrev pub pair_lits : List Lit
 pair_lits = lit.Integer (pos 1) ∷ []
 
 abbrev pub local_plan : Plan
-local_plan = plan 7 2 ([] ∷ [] ∷ []) (Global ∷ Local ∷ [])
+local_plan = plan pair_procs ([] ∷ [] ∷ []) (Global ∷ Local ∷ [])
 
 abbrev pub global_plan : Plan
-global_plan = plan 7 2 ([] ∷ [] ∷ []) (Global ∷ Global ∷ [])
+global_plan = plan pair_procs ([] ∷ [] ∷ []) (Global ∷ Global ∷ [])
 
 -- the pair is made: 48 + 64 + 16
 local_made : held local_plan pair_procs pair_lits 6 ≡ 128
@@ -234,7 +234,7 @@ waiting_procs =
     []
 
 abbrev pub waiting_plan : Plan
-waiting_plan = plan 12 3 ([] ∷ [] ∷ [] ∷ []) (Global ∷ Global ∷ Local ∷ [])
+waiting_plan = plan waiting_procs ([] ∷ [] ∷ [] ∷ []) (Global ∷ Global ∷ Local ∷ [])
 
 -- g runs, and f's pair stays while f waits: 32 + 72 + 80 + 16
 waiting_g : held waiting_plan waiting_procs pair_lits 11 ≡ 200
@@ -281,7 +281,7 @@ abbrev pub box_lits : List Lit
 box_lits = lit.Integer (pos 1) ∷ lit.Integer (pos 2) ∷ []
 
 abbrev pub box_plan : Plan
-box_plan = plan 9 2 ([] ∷ [] ∷ []) (Global ∷ Local ∷ [])
+box_plan = plan box_procs ([] ∷ [] ∷ []) (Global ∷ Local ∷ [])
 
 -- 64 + 64, then with the box, then without f
 box_before : held box_plan box_procs box_lits 5 ≡ 128
@@ -322,7 +322,7 @@ abbrev pub closure_lits : List Lit
 closure_lits = lit.Integer (pos 5) ∷ []
 
 abbrev pub closure_plan : Plan
-closure_plan = plan 7 3 ([] ∷ [] ∷ (6 ∷ []) ∷ []) (Global ∷ Global ∷ [])
+closure_plan = plan closure_procs ([] ∷ [] ∷ (6 ∷ []) ∷ []) (Global ∷ Global ∷ [])
 
 -- make runs: 40 + 72, and with the closure 16 more
 closure_before : held closure_plan closure_procs closure_lits 5 ≡ 112
@@ -393,7 +393,7 @@ record_lits =
 
 abbrev pub record_plan : Plan
 record_plan =
-    record (plan 20 4 ([] ∷ [] ∷ []) (Global ∷ Global ∷ [])) {
+    record (plan record_procs ([] ∷ [] ∷ []) (Global ∷ Global ∷ [])) {
       capturing = record { procs = 0 ∷ 1 ∷ []; recording = 5 ∷ 16 ∷ [] };
     }
 

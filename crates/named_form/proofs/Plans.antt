@@ -1,11 +1,13 @@
 -- Plans for small programs, and what of a valid plan fails first in a run.
 use Rattle.std.proofs.Common.{ℕ, zero, suc, List, [], ◌∷◌}
-use Rattle.std.specs.Prelude.{Bool, true, false, replicate}
+use Rattle.std.specs.Prelude.{Bool, true, false, replicate, length}
+use Rattle.std.specs.List.{flat_map}
 use Rattle.scheme_base.specs.declared.lit.Lit.{Lit}
 use Rattle.scheme_base.specs.declared.place.Mark.{Mark}
 use Rattle.named_form.specs.declared.plan.Plan.{Plan}
+use Rattle.named_form.specs.declared.plan.Repr.TheVariants.{Tagged}
 use Rattle.named_form.specs.declared.plan.StepUse.{StepUse}
-use Rattle.named_form.specs.Code.{Written, Program, program}
+use Rattle.named_form.specs.Code.{Written, Program, program, bound_in, totals}
 use Rattle.named_form.specs.NamedRun.{State, start, step}
 use Rattle.named_form.specs.Storage.{open_bytes}
 use Rattle.named_form.specs.ValidPlan.{At, at, reached, fictions, homes, pointers, lists, checks, bare, quiet_calls, captured_global, capture_modes, capture_entries, capture_tails, compared}
@@ -14,15 +16,20 @@ use Rattle.named_form.proofs.Seen.{quiet, state}
 abbrev pub used : StepUse
 used = record { reached = true; checked = true }
 
--- a plan of so many steps and blocks that are all reached and checked, where nothing captures, is compared,
--- or has a place of another kind than its frame
-abbrev pub plan : (steps blocks : ℕ) → (kept : List (List ℕ)) → List Mark → Plan
-plan steps blocks kept marks =
+-- a plan of a program in which all is reached and checked, nothing captures or is compared, and each variable
+-- has a place in its frame
+abbrev pub plan : List Written → (kept : List (List ℕ)) → List Mark → Plan
+plan ps kept marks =
     record {
       capturing = record { procs = []; recording = [] };
       slots = record { kept = kept; fictitious = []; global = []; compared = [] };
       marks = marks;
-      reprs = record { vars = []; blocks = replicate blocks true; steps = replicate steps used };
+      reprs =
+          record {
+            vars = replicate (length (flat_map bound_in ps)) Tagged;
+            blocks = replicate (totals ps).blocks true;
+            steps = replicate (totals ps).steps used;
+          };
     }
 
 -- open storage after so many steps

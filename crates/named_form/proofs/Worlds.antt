@@ -1,17 +1,17 @@
 -- What a step does to the world of its state, handler by handler: a property of worlds that each change
 -- keeps holds after the step.
 use Rattle.std.proofs.Common.{ℕ, suc, Bool, true, false, List, [], ◌∷◌, ◌++◌, length, Option, Some, None}
-use Rattle.std.specs.Prelude.{map, drop, nat_eq, is_some, slice_get}
+use Rattle.std.specs.Prelude.{nat_eq, is_some, slice_get}
 use Rattle.std.specs.Map.{lookup}
 use Rattle.scheme_base.specs.declared.env.Env.{Env}
 use Rattle.scheme_base.specs.declared.op.Op.{Op}
 use Rattle.scheme_base.specs.declared.op.Op.TheVariants as op
 use Rattle.scheme_base.specs.declared.pos.Pos.{Pos}
 use Rattle.scheme_base.specs.Values.{Value, Undefined, Content, Thing, Datum, Procedure, ByRun}
-use Rattle.scheme_base.specs.Operations.{Outcome, Answers, Makes, Changes, Passes, Applies, Captures, Fails, Breaks, operate, sight, changed, channels_after, list_contents, number_of, takes}
+use Rattle.scheme_base.specs.Operations.{Outcome, Answers, Makes, Changes, Passes, Applies, Captures, Fails, Breaks, operate, sight, changed, channels_after, number_of, takes}
 use Rattle.scheme_base.specs.Stops.{Stop}
 use Rattle.named_form.specs.Code.{Code, Ends, Then, Deed, Const, Copy, Prim, Call, Apply, CallCC, If, Closure, Fix, MakeBox, MakeHole, Unbox, SetBox, TopGet, TopSet, TopDefine, Label, Program, Lambda}
-use Rattle.named_form.specs.NamedRun.{Vars, Open, Point, Callee, Closes, Continues, Maker, Entry, Boxed, World, State, Leaving, Place, value_of, values_of, bind_all, entry, with_entry, next, store, leave, is_tail, enter, entered, enter_closure, return, resume, call_thing, call_of, call, entry_at, maker, leaves, capture, carry, perform, closure, closures, objects_from, content, box_at, box_number, unbox, with_content, top_get, top_set, act, option_value, finish, go, step_from, step}
+use Rattle.named_form.specs.NamedRun.{Vars, Open, Point, Callee, Closes, Continues, Maker, Entry, Boxed, World, State, Leaving, Place, value_of, values_of, entry, next, store, leave, is_tail, enter, entered, enter_closure, return, resume, call_thing, call_of, call, entry_at, maker, leaves, capture, carry, perform, content, box_at, box_number, unbox, with_content, top_get, top_set, act, option_value, finish, go, step_from, step}
 
 -- a property of worlds that holds after each change of what a world has
 pub record Stable (P : World → Type 0) : Type 0 where
@@ -51,10 +51,7 @@ enter_world : (P : World → Type 0) → Stable P → (p : Lambda) (rest : Optio
     → Both P c → P (enter p rest q f kept vs c).world
 enter_world P stable p None q f kept vs c h = stable.started c.world h.going
 enter_world P stable p (Some x) q f kept vs c h =
-    let w = c.world in
-    let past = drop (length p.params) vs in
-    let es = map (λ d. entry (record { site = p.list_site; activation = w.started }) (Datum ByRun d)) (list_contents (length w.entries) past) in
-    stable.started (record w { entries = w.entries ++ es }) (stable.entries w es h.going)
+    stable.started _ (stable.entries c.world _ h.going)
 
 entered_world : (P : World → Type 0) (b : Bool) (c : Leaving) (s : State)
     → Both P c → P s.world → P (entered b c s).world
@@ -98,10 +95,8 @@ call_world P stable p f vs c h = call_of_world P stable p (entry_at c.world f) (
 capture_world : (P : World → Type 0) → Stable P → (p : Program) (f : Value) (m : Maker) (c : Leaving)
     → Both P c → P (capture p f m c).world
 capture_world P stable p f m c h =
-    let e = entry m (Procedure (Continues c.points)) in
-    let after = record c { world = with_entry e c.world } in
-    call_world P stable p f (next c.world ∷ []) after
-    (record { going = stable.entries c.world (e ∷ []) h.going; before = h.before })
+    call_world P stable p f (next c.world ∷ []) _
+    (record { going = stable.entries c.world _ h.going; before = h.before })
 
 carry_world : (P : World → Type 0) → Stable P → (p : Program) (outcome : Outcome) (at : Place) (s : State)
     → P s.world → P (record s.world { channels = channels_after s.world.channels outcome })
@@ -152,16 +147,10 @@ act_world P stable p env (Apply f y) xs at s h passing =
 act_world P stable p env (CallCC f) xs at s h passing =
     perform_world P stable p env op.CallCC (values_of s.now.activation.vars (f ∷ [])) at s h passing
 act_world P stable p env (If t this that) xs at s h passing = h
-act_world P stable p env (Closure q) xs at s h passing =
-    stable.entries s.world (closure p q s.now.activation.number s.now.activation.vars ∷ []) h
-act_world P stable p env (Fix qs) xs at s h passing =
-    let a = s.now.activation in
-    stable.entries s.world
-    (closures p qs a.number (bind_all xs (objects_from (length s.world.entries) qs) a.vars)) h
-act_world P stable p env (MakeBox y) xs at s h passing =
-    stable.boxes s.world (record { value = value_of s.now.activation.vars y; maker = maker at.label s } ∷ []) h
-act_world P stable p env MakeHole xs at s h passing =
-    stable.boxes s.world (record { value = Undefined; maker = maker at.label s } ∷ []) h
+act_world P stable p env (Closure q) xs at s h passing = stable.entries s.world _ h
+act_world P stable p env (Fix qs) xs at s h passing = stable.entries s.world _ h
+act_world P stable p env (MakeBox y) xs at s h passing = stable.boxes s.world _ h
+act_world P stable p env MakeHole xs at s h passing = stable.boxes s.world _ h
 act_world P stable p env (Unbox b checked) xs at s h passing =
     unbox_world P (content (box_at s.world (value_of s.now.activation.vars b))) at s h
 act_world P stable p env (SetBox b y) xs at s h passing =

@@ -244,15 +244,27 @@ abbrev pub but_first : List Written → List Written
 but_first [] = []
 but_first (p ∷ ps) = ps
 
+-- how many sites stand before the first step: the closures of the procedures from 1 on, and the rest lists
+abbrev pub first_sites : List Written → ℕ
+first_sites ps = length (but_first ps) + rest_lists ps
+
+abbrev pub past_all : Counts → List Written → Counts
+past_all at [] = at
+past_all at (p ∷ ps) =
+    past_all (past_code (record { steps = at.steps; sites = at.sites; blocks = suc at.blocks }) p.body) ps
+
+-- how many steps, sites and blocks a program has
+abbrev pub totals : List Written → Counts
+totals ps = past_all (record { steps = 0; sites = first_sites ps; blocks = 0 }) ps
+
 -- Sites are numbered thus: the closures of the procedures from 1 on, the rest lists, then the steps that make
 -- something, in the order of steps.
 abbrev pub program : List Written → List Lit → Program
 program ps lits =
-    let closures = length (but_first ps) in
     record {
       procs =
-          procedures ps 0 closures
-          (record { steps = 0; sites = closures + rest_lists ps; blocks = 0 }) ps;
+          procedures ps 0 (length (but_first ps))
+          (record { steps = 0; sites = first_sites ps; blocks = 0 }) ps;
       lits = lits;
     }
 

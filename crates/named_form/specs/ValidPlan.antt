@@ -18,7 +18,7 @@ use Rattle.named_form.specs.declared.plan.Fiction.{Fiction}
 use Rattle.named_form.specs.declared.plan.Repr.{Repr}
 use Rattle.named_form.specs.declared.plan.Repr.TheVariants as repr
 use Rattle.named_form.specs.declared.plan.StepUse.{StepUse}
-use Rattle.named_form.specs.Code.{Code, Ends, Then, Deed, Prim, Call, Apply, CallCC, If, Label, Program, Lambda, has, reads, closes, option_list}
+use Rattle.named_form.specs.Code.{Code, Ends, Then, Deed, Prim, Call, Apply, CallCC, If, Label, Program, Lambda, Written, bound_in, totals, has, reads, closes, option_list}
 use Rattle.named_form.specs.NamedRun.{Vars, Activation, Callee, Closes, Continues, Maker, Entry, Boxed, State, value_of, values_of, chosen, entry_at, is_tail, single, store, machine, start, step}
 use Rattle.named_form.specs.Storage.{captures, records, is_fictitious, is_global, keeps, is_compared, is_static, mark_of, bound, live, is_held}
 
@@ -372,6 +372,36 @@ compares a deed = true
 
 abbrev pub compared : At → Bool
 compared a = on_next (λ l x deed tail. compares a deed) (λ x. true) a
+
+-- The shape of a plan
+
+abbrev pub rises : List ℕ → Bool
+rises [] = true
+rises (x ∷ []) = true
+rises (x ∷ y ∷ ys) = nat_lt x y && rises (y ∷ ys)
+
+-- a list that stands for a set of numbers below this one
+abbrev pub is_set : (below : ℕ) → List ℕ → Bool
+is_set below xs = rises xs && list_all (λ x. nat_lt x below) xs
+
+abbrev pub states_procedure : (procs : ℕ) → Stated → Bool
+states_procedure procs (stated.Closure q) = nat_lt q procs
+states_procedure procs s = true
+
+-- A plan speaks of each procedure, site, variable, block and step of a program, and of nothing else.
+pub record FitsProgram (plan : Plan) (ps : List Written) : Type 0 where
+  pub kept : length plan.slots.kept ≡ length ps
+  pub marks : length plan.marks ≡ (totals ps).sites
+  pub vars : length plan.reprs.vars ≡ length (flat_map bound_in ps)
+  pub blocks : length plan.reprs.blocks ≡ (totals ps).blocks
+  pub steps : length plan.reprs.steps ≡ (totals ps).steps
+  pub capturing : IsTrue (is_set (length ps) plan.capturing.procs)
+  pub recording : IsTrue (is_set (length plan.reprs.vars) plan.capturing.recording)
+  pub each_kept : IsTrue (list_all (is_set (length plan.reprs.vars)) plan.slots.kept)
+  pub fictitious : IsTrue (is_set (length plan.reprs.vars) (map (λ f. f.var) plan.slots.fictitious))
+  pub stated : IsTrue (list_all (λ f. states_procedure (length ps) f.value) plan.slots.fictitious)
+  pub global : IsTrue (is_set (length plan.reprs.vars) plan.slots.global)
+  pub compared : IsTrue (is_set (length ps) plan.slots.compared)
 
 -- Valid plans
 
