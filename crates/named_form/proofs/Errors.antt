@@ -97,7 +97,7 @@ arm_not_taken : seen arm_not_taken_procs (lit.Boolean false ∷ lit.Integer (pos
 arm_not_taken = refl
 
 -- (letrec ((a b) (b 1)) a)
-abbrev hole_procs : List Written
+abbrev pub hole_procs : List Written
 hole_procs =
     record {
       params = [];

@@ -139,7 +139,7 @@ least_number : seen least_number_procs (lit.Integer (pos 0) ∷ lit.Char 45 ∷ 
 least_number = refl
 
 -- (letrec ((do (lambda (i) (if (= i 9) 7 (do (+ i 1)))))) (do 0))
-abbrev loop_procs : List Written
+abbrev pub loop_procs : List Written
 loop_procs =
     record {
       params = [];

@@ -1,7 +1,7 @@
 mod Always
 mod Broken
-mod Errors
-mod Examples
+pub mod Errors
+pub mod Examples
 pub mod Halts
 pub mod Held
 pub mod Plans
