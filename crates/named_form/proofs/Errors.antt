@@ -1,6 +1,9 @@
 -- Runs of programs, written in named form, that stop with an error or at a channel, and runs with an input.
 --
 -- Expected values are R4RS's and this profile's, worked out by hand.
+--
+-- They refuse definitions of another meaning: `hole` a variable of a `letrec` that has a value too early,
+-- `unbound` another error where a variable is not defined.
 use Rattle.std.proofs.Common.{◌≡◌, List, [], ◌∷◌, Some, None, refl}
 use Rattle.std.specs.Prelude.{pos, negsuc, codes, true, false}
 use Rattle.scheme_base.specs.declared.lit.Lit.TheVariants as lit

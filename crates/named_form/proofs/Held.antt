@@ -1,6 +1,10 @@
 -- Open storage of small programs under plans made by hand, with numbers worked out by hand.
 --
 -- A frame of a procedure that binds v variables, all of them in the frame, has 8(2 + 1 + v) bytes.
+--
+-- They refuse definitions that count otherwise: `tail_g` a tail call that leaves a frame, `waiting_g` local
+-- objects that end while their activation waits, `record_captured` records that take nothing,
+-- `record_entered_again` a continuation without its return points.
 use Rattle.std.proofs.Common.{◌≡◌, List, [], ◌∷◌, Some, None, refl}
 use Rattle.std.specs.Prelude.{pos, false, replicate}
 use Rattle.scheme_base.specs.declared.lit.Lit.{Lit}
