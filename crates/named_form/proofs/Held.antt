@@ -99,6 +99,16 @@ short_g = refl
 short_valid : fails short_plan frames_procs frames_lits 20 ≡ []
 short_valid = refl
 
+-- a variable of the program that has a place for good has none in the frame: 8(2 + 1 + 6)
+abbrev pub place_plan : Plan
+place_plan = record frames_plan { slots = record frames_plan.slots { global = 5 ∷ [] } }
+
+place_start : held place_plan frames_procs frames_lits 0 ≡ 72
+place_start = refl
+
+place_valid : fails place_plan frames_procs frames_lits 20 ≡ []
+place_valid = refl
+
 -- (define (f x) (g x))(define (g y) y)(f 3)
 --
 -- Frames: the program's, of 7 variables, 80; f's, of 3, 48; g's, of 1, 32. The tail call leaves no frame of f.
@@ -252,6 +262,47 @@ waiting_end = refl
 
 waiting_valid : fails waiting_plan waiting_procs pair_lits 20 ≡ []
 waiting_valid = refl
+
+-- (define (f . r) (%car r))(f 1 2)
+--
+-- Frames: the program's, of 6 variables, 72; f's, of 2, 40. The list that f makes has two pairs, 32; its site is 1,
+-- after the closure's.
+abbrev pub rest_procs : List Written
+rest_procs =
+    record {
+      params = [];
+      rest = None;
+      body =
+          Then (at 1 1) (0 ∷ []) (Closure 1) (
+          Then (at 1 1) (1 ∷ []) (TopDefine 0 0) (
+          Then (at 1 27) (2 ∷ []) (TopGet 0 false) (
+          Then (at 1 29) (3 ∷ []) (Const 0) (
+          Then (at 1 31) (4 ∷ []) (Const 1) (
+          Then (at 1 26) (5 ∷ []) (Call 2 (3 ∷ 4 ∷ [])) (
+          Ends None))))));
+    } ∷
+    record {
+      params = [];
+      rest = Some 6;
+      body = Then (at 1 17) (7 ∷ []) (Prim op.Car (6 ∷ [])) (Ends (Some 7));
+    } ∷
+    []
+
+abbrev pub rest_lits : List Lit
+rest_lits = lit.Integer (pos 1) ∷ lit.Integer (pos 2) ∷ []
+
+abbrev pub rest_plan : Plan
+rest_plan = plan rest_procs ([] ∷ [] ∷ []) (Global ∷ Local ∷ [])
+
+-- f runs, and has made its list: 40 + 72 + 32
+rest_f : held rest_plan rest_procs rest_lits 6 ≡ 144
+rest_f = refl
+
+rest_end : held rest_plan rest_procs rest_lits 8 ≡ 72
+rest_end = refl
+
+rest_valid : fails rest_plan rest_procs rest_lits 20 ≡ []
+rest_valid = refl
 
 -- (define (f x) (begin (set! x 2) x))(f 1)
 --
