@@ -2,6 +2,7 @@
 use Rattle.std.proofs.Common.{◌≡◌, ℕ, ◌+◌, ◌*◌, Bool, true, false, List, [], ◌∷◌, ◌++◌, Option, Some, None, refl, sym, ap, ◌∙◌, drop, append_assoc, arith, cond}
 use Rattle.std.specs.Prelude.{ℤ, pos, neg_ℤ, nat_eq, nat_lt, codes, ◌&&◌, ◌||◌}
 use Rattle.std.specs.Option.{option_map}
+use Rattle.std.proofs.lemmas.Option.{none-some}
 use Rattle.datum_form.specs.Grammar.{IsRadix, IsExactness, IsPrefix, IsSign, IsNumber, with_sign}
 use Rattle.datum_form.specs.Grammar.IsRadix.{binary, octal, decimal, marked_decimal, hexadecimal}
 use Rattle.datum_form.specs.Grammar.IsExactness.{unmarked, exact}
@@ -12,9 +13,6 @@ use Rattle.datum_form.specs.Words.{begins_with, digit, digits, digits_after, sig
 pub apart : true ≡ false → ⊥
 apart e = cc
 
-none_some : {A : Type 0} → (x : A) → None ≡ Some x → ⊥
-none_some x e = cc
-
 -- The first digit
 
 first_digit : (r b v : ℕ) (bytes : List ℕ) → digits r (b ∷ bytes) ≡ Some v → nat_lt (digit b) r ≡ true
@@ -22,7 +20,7 @@ first_digit r b v bytes h = at (nat_lt (digit b) r) h
   where
     at : (t : Bool) → cond t (digits_after r (0 * r + digit b) bytes) None ≡ Some v → t ≡ true
     at true e = refl
-    at false e = absurd (none_some v e)
+    at false e = absurd (none-some v e)
 
 pub same_byte : (k b : ℕ) → nat_eq k b ≡ true → b ≡ k
 same_byte k b e = grind arith
@@ -42,7 +40,7 @@ pub no_hash : (r v x : ℕ) (negative : Bool) (sign ds : List ℕ) → nat_lt 16
     → digits r ds ≡ Some v → begins_with (sign ++ ds) (35 ∷ x ∷ []) ≡ false
 no_hash r v x negative sign ds few plus h = refl
 no_hash r v x negative sign ds few minus h = refl
-no_hash r v x negative sign [] few unsigned h = absurd (none_some v h)
+no_hash r v x negative sign [] few unsigned h = absurd (none-some v h)
 no_hash r v x negative sign (b ∷ bytes) few unsigned h = rw (no_digit r 35 b v bytes h few) refl
 
 -- a number without its prefix
@@ -50,7 +48,7 @@ pub signed_read : (r v : ℕ) (negative : Bool) (sign ds : List ℕ) → nat_lt 
     → digits r ds ≡ Some v → signed r (sign ++ ds) ≡ Some (with_sign negative v)
 signed_read r v negative sign ds few plus h = ap (option_map (λ n. pos n)) h
 signed_read r v negative sign ds few minus h = ap (option_map (λ n. neg_ℤ (pos n))) h
-signed_read r v negative sign [] few unsigned h = absurd (none_some v h)
+signed_read r v negative sign [] few unsigned h = absurd (none-some v h)
 signed_read r v negative sign (b ∷ bytes) few unsigned h =
     let no_minus : nat_eq 45 b ≡ false = no_digit r 45 b v bytes h few in
     let no_plus : nat_eq 43 b ≡ false = no_digit r 43 b v bytes h few in
@@ -148,7 +146,7 @@ begins_two (a ∷ b ∷ rest) k x e =
     ∙ ap (λ c. k ∷ c ∷ rest) (same_byte x b (and_left (nat_eq x b) true both))
 
 value_of : (f : ℕ → ℤ) (o : Option ℕ) (z : ℤ) → option_map f o ≡ Some z → (v : ℕ) × (o ≡ Some v) × (z ≡ f v)
-value_of f None z e = absurd (none_some z e)
+value_of f None z e = absurd (none-some z e)
 value_of f (Some v) z e = (v, refl, cc)
 
 record Signed (r : ℕ) (text : List ℕ) (z : ℤ) : Type 0 where

@@ -1,7 +1,8 @@
 -- A node stands for one datum at most.
-use Rattle.std.proofs.Common.{◌≡◌, ℕ, false, List as Seq, [], ◌∷◌, Option, Some, None, refl, sym, ap, subst, ◌∙◌, arith}
+use Rattle.std.proofs.Common.{◌≡◌, ℕ, false, List as Seq, [], ◌∷◌, Some, None, refl, sym, ap, subst, ◌∙◌, arith}
 use Rattle.std.specs.Prelude.{slice_get, nat_eq}
 use Rattle.scheme_base.specs.declared.pos.Pos.{Pos}
+use Rattle.scheme_base.proofs.Lists.{same_item, nil-cons}
 use Rattle.datum_form.specs.declared.datums.Node.{Node}
 use Rattle.datum_form.specs.declared.datums.Kind.{Kind}
 use Rattle.datum_form.specs.declared.datums.Kind.TheVariants as kind
@@ -65,15 +66,12 @@ seen nodes id (Chain p is) h = record { node = _; got = h.1; shaped = refl }
 seen nodes id (Dotted p is d) h = record { node = _; got = h.2; shaped = refl }
 seen nodes id (Row p is) h = record { node = _; got = h.1; shaped = refl }
 
-same_some : {A : Type 0} → (o : Option A) (x y : A) → o ≡ Some x → o ≡ Some y → x ≡ y
-same_some o x y h k = cc
-
 same_shape : (nodes : Seq Node) (id : ℕ) (d e : Datum) → Stands nodes id d → Stands nodes id e → shape_of d ≡ shape_of e
 same_shape nodes id d e h k =
     let one = seen nodes id d h in
     let other = seen nodes id e k in
     sym one.shaped
-    ∙ (ap (λ n. shape n.kind) (same_some (slice_get nodes id) one.node other.node one.got other.got) ∙ other.shaped)
+    ∙ (ap (λ n. shape n.kind) (same_item (slice_get nodes id) one.node other.node one.got other.got) ∙ other.shaped)
 
 differ : (m n : ℕ) → nat_eq m n ≡ false → m ≡ n → ⊥
 differ m n apart same = grind arith
@@ -81,7 +79,7 @@ differ m n apart same = grind arith
 same_node : (nodes : Seq Node) (id : ℕ) (k l : Kind) (p q : Pos) → IsNode nodes id k p → IsNode nodes id l q
     → (k ≡ l) × (p ≡ q)
 same_node nodes id k l p q h g =
-    let same = same_some (slice_get nodes id) (record { kind = k; pos = p }) (record { kind = l; pos = q }) h g in
+    let same = same_item (slice_get nodes id) (record { kind = k; pos = p }) (record { kind = l; pos = q }) h g in
     (ap (λ n. n.kind) same, ap (λ n. n.pos) same)
 
 abbrev ids_of : Kind → Seq ℕ
@@ -102,9 +100,6 @@ head_of other (i ∷ is) = i
 abbrev after_head : Seq ℕ → Seq ℕ
 after_head [] = []
 after_head (i ∷ is) = is
-
-nothing : (i : ℕ) (is : Seq ℕ) → [] ≡ i ∷ is → ⊥
-nothing i is e = cc
 
 mutual
   pub one_node : (nodes : Seq Node) (id : ℕ) (d e : Datum) → Stands nodes id d → Stands nodes id e → d ≡ e
@@ -130,8 +125,8 @@ mutual
   pub one_list : (nodes : Seq Node) (ids more : Seq ℕ) → ids ≡ more → (is js : Items) → StandAll nodes ids is
       → StandAll nodes more js → is ≡ js
   one_list nodes ids more same none none h k = refl
-  one_list nodes ids more same none (item e js) h k = absurd (nothing k.0 k.1 (sym h ∙ (same ∙ k.2)))
-  one_list nodes ids more same (item d is) none h k = absurd (nothing h.0 h.1 (sym k ∙ (sym same ∙ h.2)))
+  one_list nodes ids more same none (item e js) h k = absurd (nil-cons k.0 k.1 (sym h ∙ (same ∙ k.2)))
+  one_list nodes ids more same (item d is) none h k = absurd (nil-cons h.0 h.1 (sym k ∙ (sym same ∙ h.2)))
   one_list nodes ids more same (item d is) (item e js) h k =
       let lists = sym h.2 ∙ (same ∙ k.2) in
       let P : ℕ → Type 0 = λ i. Stands nodes i e in

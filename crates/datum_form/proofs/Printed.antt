@@ -5,6 +5,8 @@ use Rattle.std.specs.Char.{to_ascii_lowercase}
 use Rattle.std.specs.Fmt.{decimal, digits as glyphs, digits_onto, digit_glyph}
 use Rattle.std.specs.Str.{str_to_ascii_lowercase}
 use Rattle.scheme_base.specs.declared.pos.Pos.{Pos}
+use Rattle.scheme_base.specs.AtomText.{character_text, escaped_text}
+use Rattle.scheme_base.specs.Integers.{in_range}
 use Rattle.datum_form.proofs.Strings.{same_byte, differs}
 use Rattle.datum_form.specs.Grammar.{Delimited, Undelimited, IsNumber, IsWord, IsString, IsToken}
 use Rattle.datum_form.specs.Grammar.IsRadix.{decimal as ten}
@@ -15,12 +17,12 @@ use Rattle.datum_form.specs.Grammar.IsWord.{dot, true_word, false_word, number, 
 use Rattle.datum_form.specs.Grammar.IsCharacter.{itself, space, newline}
 use Rattle.datum_form.specs.Grammar.IsString.{empty, plain, escaped_quote, escaped_backslash}
 use Rattle.datum_form.specs.Grammar.IsToken.{opens, opens_vector, closes, quote, quasiquote, splice, unquote, string, character, word}
-use Rattle.datum_form.specs.Print.{atom_text, character_text, escaped_text}
+use Rattle.datum_form.specs.Print.{atom_text}
 use Rattle.datum_form.specs.Syntax.{Token, Atom}
 use Rattle.datum_form.specs.Syntax.Atom.{Integer, Boolean, Character, Text, Name}
 use Rattle.datum_form.specs.Syntax.Token.{Single}
 use Rattle.datum_form.specs.Text.{is_delimiter}
-use Rattle.datum_form.specs.Words.{digit, digits, digits_after, in_range, is_name}
+use Rattle.datum_form.specs.Words.{digit, digits, digits_after, is_name}
 
 -- what stands in a text as a datum without parts
 abbrev pub ValidAtom : Atom → Type 0

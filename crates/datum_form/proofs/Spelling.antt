@@ -4,12 +4,14 @@ use Rattle.std.specs.Prelude.{ℤ, nat_eq, nat_lt, not, codes, ◌&&◌, ◌||�
 use Rattle.std.specs.Str.{bytes_eq}
 use Rattle.std.proofs.lemmas.Slice.Eq.{bytes_eq-Decides}
 use Rattle.scheme_base.specs.declared.pos.Pos.{Pos}
+use Rattle.scheme_base.specs.Integers.{in_range}
+use Rattle.std.proofs.lemmas.Option.{none-some}
 use Rattle.datum_form.specs.Grammar.{IsWord}
 use Rattle.datum_form.specs.Grammar.IsWord.{dot, true_word, false_word, number, name}
 use Rattle.datum_form.specs.Syntax.{Token}
 use Rattle.datum_form.specs.Syntax.Atom.{Integer, Boolean, Name}
 use Rattle.datum_form.specs.Syntax.Token.{Dot, Single}
-use Rattle.datum_form.specs.Words.{digit, is_initial, is_ordinary, all_subsequent, is_name, in_range, number as number_of, name_word, number_or_name, small_word}
+use Rattle.datum_form.specs.Words.{digit, is_initial, is_ordinary, all_subsequent, is_name, number as number_of, name_word, number_or_name, small_word}
 use Rattle.datum_form.specs.Words.Word.{IsToken, OutOfRange, NoWord}
 use Rattle.datum_form.proofs.Numerals.{apart, and_left, and_right, same_byte, plain, number_read, number_written}
 
@@ -101,17 +103,14 @@ small_else : (p : Pos) (text : List ℕ) → (text ≡ codes "." → ⊥) → (t
     → small_word p text ≡ number_or_name p text (number_of text)
 small_else p text a b c = rw (other text (codes ".") a, other text (codes "#t") b, other text (codes "#f") c) refl
 
-no_some : {A : Type 0} → (x : A) → None ≡ Some x → ⊥
-no_some x e = cc
-
 pub word_read : (p : Pos) (text : List ℕ) (t : Token) → IsWord p text t → small_word p text ≡ IsToken t
 word_read p text t (dot q) = refl
 word_read p text t (true_word q) = refl
 word_read p text t (false_word q) = refl
 word_read p text t (number q word z h range) =
     let is = number_read text z h in
-    small_else p text (λ e. no_some z (sym (ap number_of e) ∙ is)) (λ e. no_some z (sym (ap number_of e) ∙ is))
-    (λ e. no_some z (sym (ap number_of e) ∙ is))
+    small_else p text (λ e. none-some z (sym (ap number_of e) ∙ is)) (λ e. none-some z (sym (ap number_of e) ∙ is))
+    (λ e. none-some z (sym (ap number_of e) ∙ is))
     ∙ (ap (number_or_name p text) is ∙ ap (λ b. cond b (IsToken (Single p (Integer z))) OutOfRange) range)
 word_read p text t (name q word h) =
     small_else p text (λ e. apart (sym h ∙ ap is_name e)) (λ e. apart (sym h ∙ ap is_name e))

@@ -6,12 +6,14 @@ use Rattle.std.specs.Prelude.{◌≡◌, ◌≢◌, ℕ, ℤ, pos, neg_ℤ, Bool
 use Rattle.std.specs.Char.{is_ascii_whitespace}
 use Rattle.std.specs.Str.{byte, str_to_ascii_lowercase}
 use Rattle.scheme_base.specs.declared.pos.Pos.{Pos}
+use Rattle.scheme_base.specs.Positions.{after_byte, position_after}
+use Rattle.scheme_base.specs.Integers.{in_range}
 use Rattle.datum_form.specs.Syntax.{Token}
 use Rattle.datum_form.specs.Syntax.Atom.{Integer, Boolean, Character, Text, Name}
 use Rattle.datum_form.specs.Syntax.Mark.{Quote, Quasiquote, Unquote, Splice}
 use Rattle.datum_form.specs.Syntax.Token.{Open, OpenVector, Close, Dot, Marking, Single}
-use Rattle.datum_form.specs.Text.{after_byte, is_delimiter}
-use Rattle.datum_form.specs.Words.{digits, in_range, is_name}
+use Rattle.datum_form.specs.Text.{is_delimiter}
+use Rattle.datum_form.specs.Words.{digits, is_name}
 
 -- ⟨number⟩
 
@@ -132,11 +134,6 @@ abbrev pub AtLineEnd : List ℕ → Type 0
 AtLineEnd [] = Unit {0}
 AtLineEnd (b ∷ bytes) = b ≡ byte "\n"
 
--- the place after a text that begins at this place
-abbrev pub place_after : Pos → List ℕ → Pos
-place_after p [] = p
-place_after p (b ∷ bytes) = place_after (after_byte p b) bytes
-
 -- A text that begins at a place is these tokens, with ⟨intertoken space⟩ between them: whitespace, which is
 -- the space, the tab, the line feed, the form feed and the carriage return, and comments.
 pub data IsTokens : Pos → List ℕ → List Token → Type 0 where
@@ -146,10 +143,10 @@ pub data IsTokens : Pos → List ℕ → List Token → Type 0 where
       → IsTokens (after_byte p b) rest ts → IsTokens p (b ∷ rest) ts
   comment :
       (p : Pos) (line rest : List ℕ) (ts : List Token) → IsOneLine line → AtLineEnd rest
-      → IsTokens (place_after p (byte ";" ∷ line)) rest ts → IsTokens p (byte ";" ∷ (line ++ rest)) ts
+      → IsTokens (position_after p (byte ";" ∷ line)) rest ts → IsTokens p (byte ";" ∷ (line ++ rest)) ts
   token :
       (p : Pos) (word rest : List ℕ) (t : Token) (ts : List Token) → IsToken p word rest t
-      → IsTokens (place_after p word) rest ts → IsTokens p (word ++ rest) (t ∷ ts)
+      → IsTokens (position_after p word) rest ts → IsTokens p (word ++ rest) (t ∷ ts)
 
 -- a whole text is these tokens
 abbrev pub IsSpelled : List ℕ → List Token → Type 0

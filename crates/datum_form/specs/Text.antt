@@ -7,22 +7,13 @@ use Rattle.std.specs.List.{take_while}
 use Rattle.std.specs.Char.{is_ascii_whitespace}
 use Rattle.std.specs.Str.{byte, str_to_ascii_lowercase}
 use Rattle.scheme_base.specs.declared.pos.Pos.{Pos}
+use Rattle.scheme_base.specs.Positions.{after_byte, is_line_end}
 use Rattle.datum_form.specs.Syntax.{Token}
 use Rattle.datum_form.specs.Syntax.Atom.{Text}
 use Rattle.datum_form.specs.Syntax.Mark.{Quote, Quasiquote, Unquote, Splice}
 use Rattle.datum_form.specs.Syntax.Token.{Open, OpenVector, Close, Marking, Single}
 use Rattle.datum_form.specs.Words.{Word, begins_with, small_word, character_word}
 use Rattle.datum_form.specs.Words.Word.{IsToken, OutOfRange, NoWord}
-
--- Places
-
-abbrev pub is_line_end : ℕ → Bool
-is_line_end b = b == byte "\n"
-
--- the place after a byte at this place
-abbrev pub after_byte : Pos → ℕ → Pos
-after_byte p b =
-    if is_line_end b then (record { line = p.line + 1; col = 1 }) else (record { line = p.line; col = p.col + 1 })
 
 -- Strings
 

@@ -2,12 +2,13 @@
 --
 -- This profile narrows R4RS: numbers are exact integers from -2^61 to 2^61 - 1, in any of the four radices
 -- and with `#e` at most, and a character is one byte, whatever it is. Capital letters are as small ones.
-use Rattle.std.specs.Prelude.{ℕ, ◌+◌, ◌-◌, ◌*◌, ◌==◌, ℤ, pos, negsuc, neg_ℤ, int_le, Bool, true, false, ◌||◌, ◌&&◌, if◌then◌else◌, nat_eq, nat_le, nat_lt, List, [], ◌∷◌, length, drop, slice_index, codes, Option, Some, None}
+use Rattle.std.specs.Prelude.{ℕ, ◌+◌, ◌-◌, ◌*◌, ◌==◌, ℤ, pos, neg_ℤ, Bool, true, false, ◌||◌, ◌&&◌, if◌then◌else◌, nat_eq, nat_le, nat_lt, List, [], ◌∷◌, length, drop, slice_index, codes, Option, Some, None}
 use Rattle.std.specs.List.{starts_with}
 use Rattle.std.specs.Option.{option_map}
 use Rattle.std.specs.Str.{byte, bytes_eq, str_to_ascii_lowercase}
 use Rattle.scheme_base.specs.Outside.{lists}
 use Rattle.scheme_base.specs.declared.pos.Pos.{Pos}
+use Rattle.scheme_base.specs.Integers.{in_range}
 use Rattle.datum_form.specs.Syntax.{Token}
 use Rattle.datum_form.specs.Syntax.Atom.{Integer, Boolean, Character, Name}
 use Rattle.datum_form.specs.Syntax.Token.{Dot, Single}
@@ -62,9 +63,6 @@ abbrev pub number : List ℕ → Option ℤ
 number text =
     if begins_with text (codes "#e") then signed (radix_of (drop 2 text)) (after_radix (drop 2 text))
     else signed (radix_of text) (after_exact (after_radix text))
-
-abbrev pub in_range : ℤ → Bool
-in_range z = int_le (negsuc 2305843009213693951) z && int_le z (pos 2305843009213693951)
 
 -- Names: ⟨identifier⟩, in small letters
 

@@ -2,12 +2,11 @@ ghost use Rattle.std.specs.Prelude.{◌≡◌, ◌++◌, ◌∷◌, [], codes, L
 ghost use Rattle.datum_form.specs.declared.datums.Node.{Node};
 ghost use Rattle.datum_form.specs.Data.{Datum, Items};
 ghost use Rattle.datum_form.specs.Stands.{Stands, StandAll, Holds};
-ghost use Rattle.datum_form.specs.Print.{boolean_text, character_text, escaped_text, text_of, items_text, more_text, lines_of};
+ghost use Rattle.datum_form.specs.Print.{text_of, items_text, more_text, lines_of};
 ghost use Rattle.datum_form.specs.Pending.{Prints, Pending, Left, IsKind};
-ghost use Rattle.std.specs.Fmt.{signed_decimal};
 
 use crate::datums::{Datums, Kind, Nodes};
-use itoa::Buffer;
+use scheme_base::{write_boolean, write_character, write_integer, write_string};
 use std::alloc::{AllocError, Global};
 
 /// What is still to be printed.
@@ -114,63 +113,6 @@ fn write_kind(kind: &Kind, text: &mut Vec<u8>, parts: &mut Vec<Part>) -> Result<
             parts.push(Part::Close)?;
             push_items(items.as_slice(), parts)?;
         }
-    }
-    Ok(())
-}
-
-fn write_integer(value: i64, text: &mut Vec<u8>) -> Result<(), AllocError>
-    ensures { OnOk result (text.new.items ≡ text.old.items ++ signed_decimal value) }
-{
-    let mut buffer = Buffer::new();
-    text.extend_from_slice(buffer.format(value).as_bytes())?;
-    Ok(())
-}
-
-fn write_boolean(value: bool, text: &mut Vec<u8>) -> Result<(), AllocError>
-    ensures { OnOk result (text.new.items ≡ text.old.items ++ boolean_text value) }
-{
-    if value {
-        text.extend_from_slice(b"#t")?;
-    } else {
-        text.extend_from_slice(b"#f")?;
-    }
-    Ok(())
-}
-
-fn write_character(byte: u8, text: &mut Vec<u8>) -> Result<(), AllocError>
-    ensures { OnOk result (text.new.items ≡ text.old.items ++ character_text byte) }
-{
-    if byte == b' ' {
-        text.extend_from_slice(b"#\\space")?;
-    } else if byte == b'\n' {
-        text.extend_from_slice(b"#\\newline")?;
-    } else {
-        text.extend_from_slice(&[b'#', b'\\', byte])?;
-    }
-    Ok(())
-}
-
-fn write_string(bytes: &[u8], text: &mut Vec<u8>) -> Result<(), AllocError>
-    ensures { OnOk result (text.new.items ≡ text.old.items ++ (codes "\"" ++ (escaped_text bytes.now ++ codes "\""))) }
-{
-    text.push(b'"')?;
-    let mut rest = bytes;
-    while let Some((first, others)) = rest.split_first() {
-        write_escaped(*first, text)?;
-        rest = others;
-    }
-    text.push(b'"')?;
-    Ok(())
-}
-
-/// Prints a byte of a string.
-fn write_escaped(byte: u8, text: &mut Vec<u8>) -> Result<(), AllocError>
-    ensures { OnOk result (text.new.items ≡ text.old.items ++ escaped_text (byte ∷ [])) }
-{
-    if byte == b'"' || byte == b'\\' {
-        text.extend_from_slice(&[b'\\', byte])?;
-    } else {
-        text.push(byte)?;
     }
     Ok(())
 }

@@ -3,16 +3,16 @@ use Rattle.std.proofs.Common.{◌≡◌, ℕ, zero, suc, ◌<◌, ◌≤◌, Boo
 use Rattle.std.specs.Prelude.{codes}
 use Rattle.std.specs.Char.{is_ascii_whitespace}
 use Rattle.scheme_base.specs.declared.pos.Pos.{Pos}
-use Rattle.datum_form.specs.Grammar.{place_after}
+use Rattle.scheme_base.specs.Positions.{position_after, after_byte}
 use Rattle.datum_form.specs.Syntax.{Token}
-use Rattle.datum_form.specs.Text.{Piece, Lexed, line_length, token_piece, piece, after_byte, lexed_after}
+use Rattle.datum_form.specs.Text.{Piece, Lexed, line_length, token_piece, piece, lexed_after}
 use Rattle.datum_form.specs.Text.Piece.{Blank, Found, BadToken, BadNumber, OpenText}
 use Rattle.datum_form.specs.Words.{begins_with}
 use Rattle.datum_form.proofs.Found.{front_token}
 use Rattle.datum_form.proofs.Pieces.{token_found}
 use Rattle.datum_reader.specs.Answer.{stop_of, NoToken}
 use Rattle.datum_reader.proofs.Lexing.{piece_length_some, at_bad_token, at_bad_number, at_open_text}
-use Rattle.datum_reader.proofs.Spelled.{place_after-append}
+use Rattle.datum_reader.proofs.Spelled.{position_after-append}
 use Rattle.datum_reader.proofs.Texts.{NoBlank, past_white, past_comment, past_token, line_of, token_no_blank, first_byte}
 
 abbrev stop : Lexed → Option Pos
@@ -20,14 +20,14 @@ stop lex = stop_of lex.ending
 
 -- after the front of a text
 further : (start : Pos) (text front rest : List ℕ) (p : Pos) → text ≡ front ++ rest
-    → NoToken (place_after start front) rest p → NoToken start text p
+    → NoToken (position_after start front) rest p → NoToken start text p
 further start text front rest p whole n =
     record {
       front = front ++ n.front;
       rest = n.rest;
       whole = whole ∙ (ap (λ l. front ++ l) n.whole ∙ sym (append_assoc front n.front n.rest));
       some = n.some;
-      place = n.place ∙ sym (place_after-append start front n.front);
+      place = n.place ∙ sym (position_after-append start front n.front);
       none = n.none;
     }
 
@@ -64,7 +64,7 @@ token_stops k b p bytes q (Found t n) few is its none e more =
     sym (ap (piece p) f.whole) ∙ (is ∙ ap (λ m. Found t m) f.count) in
     let less : length f.after ≤ k = omega (arith, few, some, f.count, ap length f.whole, length-append f.bytes f.after) in
     further p text f.bytes f.after q f.whole
-    (more (place_after p f.bytes) f.after q less
+    (more (position_after p f.bytes) f.after q less
     (sym (ap stop (past_token p f.bytes f.after t found)) ∙ (sym (ap (λ l. stop (lexed_after 0 p l)) f.whole) ∙ e)))
 token_stops k b p bytes q BadToken few is its none e more =
     here p q (b ∷ bytes) BadToken (omega arith) is (λ t n h. cc)
@@ -83,7 +83,7 @@ comment_stops k b p bytes q few mark e more =
     let whole : b ∷ bytes ≡ 59 ∷ (l.line ++ l.after) = ap (λ c. c ∷ bytes) mark ∙ ap (λ r. 59 ∷ r) l.whole in
     let less : length l.after ≤ k = omega (arith, few, ap length l.whole, length-append l.line l.after) in
     further p (b ∷ bytes) (59 ∷ l.line) l.after q whole
-    (more (place_after p (59 ∷ l.line)) l.after q less
+    (more (position_after p (59 ∷ l.line)) l.after q less
     (sym (ap stop (past_comment p l.line l.after l.one l.end)) ∙ (sym (ap (λ r. stop (lexed_after 0 p r)) whole) ∙ e)))
 
 step_stops : (k b : ℕ) (p : Pos) (bytes : List ℕ) (q : Pos) → length (b ∷ bytes) ≤ suc k

@@ -3,24 +3,24 @@ use Rattle.std.proofs.Common.{◌≡◌, ℕ, zero, suc, ◌+◌, ◌-◌, ◌<�
 use Rattle.std.specs.Prelude.{not, nat_eq, codes, ◌==◌, ◌||◌, ◌&&◌}
 use Rattle.std.specs.Char.{is_ascii_whitespace}
 use Rattle.scheme_base.specs.declared.pos.Pos.{Pos}
+use Rattle.scheme_base.specs.Positions.{is_line_end, after_byte, position_after}
 use Rattle.datum_form.specs.Syntax.{Token}
 use Rattle.datum_form.specs.Syntax.Mark.{Quote, Quasiquote, Unquote, Splice}
 use Rattle.datum_form.specs.Syntax.Token.{Open, OpenVector, Close, Marking}
-use Rattle.datum_form.specs.Text.{Piece, Quoted, is_delimiter, is_line_end, run_length, line_length, word_piece, string_piece, character_piece, run_piece, mark_piece, token_piece, piece, piece_length, quoted, after_byte, before, lexed_after}
+use Rattle.datum_form.specs.Text.{Piece, Quoted, is_delimiter, run_length, line_length, word_piece, string_piece, character_piece, run_piece, mark_piece, token_piece, piece, piece_length, quoted, before, lexed_after}
 use Rattle.datum_form.specs.Text.Piece.{Blank, Found, BadToken, BadNumber, OpenText}
 use Rattle.datum_form.specs.Text.Quoted.{Closed, BadEscape, NeverClosed}
 use Rattle.datum_form.specs.Text.Ending.{Clean, BadAt, RangeAt, OpenAt}
 use Rattle.datum_form.specs.Words.{Word, begins_with, small_word, character_word}
 use Rattle.datum_form.specs.Words.Word.{IsToken, OutOfRange, NoWord}
 use Rattle.std.specs.Str.{str_to_ascii_lowercase}
-use Rattle.datum_form.specs.Grammar.{place_after}
 use Rattle.datum_reader.specs.Lexing.{token_then, ends}
 use Rattle.datum_form.proofs.Pieces.{length_while-step}
 
 -- The bytes of a piece are passed over
 
 skip : (n : ℕ) (p : Pos) (text : List ℕ)
-    → lexed_after n p text ≡ lexed_after 0 (place_after p (take n text)) (drop n text)
+    → lexed_after n p text ≡ lexed_after 0 (position_after p (take n text)) (drop n text)
 skip zero p [] = refl
 skip zero p (b ∷ bytes) = refl
 skip (suc n) p [] = refl
@@ -29,7 +29,7 @@ skip (suc n) p (b ∷ bytes) = skip n (after_byte p b) bytes
 -- counted from its first byte or from its second
 rest_of_piece : (n b : ℕ) (p : Pos) (bytes : List ℕ) → 0 < n
     → lexed_after (n - 1) (after_byte p b) bytes
-    ≡ lexed_after 0 (place_after p (take n (b ∷ bytes))) (drop n (b ∷ bytes))
+    ≡ lexed_after 0 (position_after p (take n (b ∷ bytes))) (drop n (b ∷ bytes))
 rest_of_piece zero b p bytes h = absurd (omega arith)
 rest_of_piece (suc n) b p bytes h =
     let one_less : suc n - 1 ≡ n = omega arith in
@@ -134,13 +134,13 @@ piece_length_some p [] x some e = absurd (omega arith)
 piece_length_some p (b ∷ bytes) x some e = some_of p b bytes x e
 
 pub after_blank : (p : Pos) (text : List ℕ) (n : ℕ) → 0 < length text → piece p text ≡ Blank n
-    → lexed_after 0 (place_after p (take n text)) (drop n text) ≡ lexed_after 0 p text
+    → lexed_after 0 (position_after p (take n text)) (drop n text) ≡ lexed_after 0 p text
 after_blank p [] n some e = absurd (omega arith)
 after_blank p (b ∷ bytes) n some e =
     sym (at_piece p b bytes (Blank n) e ∙ rest_of_piece n b p bytes (some_of p b bytes (Blank n) e))
 
 pub at_token : (p : Pos) (text : List ℕ) (t : Token) (n : ℕ) → 0 < length text → piece p text ≡ Found t n
-    → lexed_after 0 p text ≡ token_then t (lexed_after 0 (place_after p (take n text)) (drop n text))
+    → lexed_after 0 p text ≡ token_then t (lexed_after 0 (position_after p (take n text)) (drop n text))
 at_token p [] t n some e = absurd (omega arith)
 at_token p (b ∷ bytes) t n some e =
     at_piece p b bytes (Found t n) e

@@ -2,10 +2,11 @@
 use Rattle.std.proofs.Common.{◌≡◌, ℕ, zero, suc, List, [], ◌∷◌, ◌++◌, refl, sym, ap, subst, ◌∙◌, append_assoc}
 use Rattle.std.specs.Prelude.{codes}
 use Rattle.scheme_base.specs.declared.pos.Pos.{Pos}
+use Rattle.scheme_base.specs.Positions.{position_after, after_byte}
 use Rattle.datum_form.specs.Data.{Datum, Items, datum_of, data_of, nowhere, unplaced, unplaced_all}
 use Rattle.datum_form.specs.Data.Datum.{Single, Chain, Dotted as DottedData, Row}
 use Rattle.datum_form.specs.Data.Items.{none, item}
-use Rattle.datum_form.specs.Grammar.{Delimited, IsTokens, place_after}
+use Rattle.datum_form.specs.Grammar.{Delimited, IsTokens}
 use Rattle.datum_form.specs.Grammar.IsToken.{opens, opens_vector, closes, word}
 use Rattle.datum_form.specs.Grammar.IsTokens.{ended, white, token}
 use Rattle.datum_form.specs.Grammar.IsWord.{dot}
@@ -15,7 +16,6 @@ use Rattle.datum_form.specs.Syntax.Syntax.{Leaf, Empty, Listed, Vector}
 use Rattle.datum_form.specs.Syntax.Rest.{End, Tail}
 use Rattle.datum_form.specs.Syntax.Elements.{Last}
 use Rattle.datum_form.specs.Syntax.Token.{Open, OpenVector, Close, Dot, Single as SingleToken}
-use Rattle.datum_form.specs.Text.{after_byte}
 use Rattle.datum_form.proofs.Printed.{ValidAtom, atom_token}
 use Rattle.datum_reader.specs.Machine.{rest_of, elements_of}
 use Rattle.datum_reader.specs.Nodes.{tailed}
@@ -50,9 +50,9 @@ abbrev mutual
 
 -- Places
 
-pub place_after-append : (p : Pos) (xs ys : List ℕ) → place_after p (xs ++ ys) ≡ place_after (place_after p xs) ys
-place_after-append p [] ys = refl
-place_after-append p (b ∷ xs) ys = place_after-append (after_byte p b) xs ys
+pub position_after-append : (p : Pos) (xs ys : List ℕ) → position_after p (xs ++ ys) ≡ position_after (position_after p xs) ys
+position_after-append p [] ys = refl
+position_after-append p (b ∷ xs) ys = position_after-append (after_byte p b) xs ys
 
 moved : (p q : Pos) (text : List ℕ) (us : List Token) → p ≡ q → IsTokens p text us → IsTokens q text us
 moved p q text us e h = let P : Pos → Type 0 = λ r. IsTokens r text us in subst P e h
@@ -68,14 +68,14 @@ record Spelling (p : Pos) (text : List ℕ) (n : ℕ) (d : Datum) : Type 0 where
   tree : Syntax
   within : Within n tree
   same : unplaced (datum_of tree) ≡ unplaced d
-  spelled : (after : List ℕ) (us : List Token) → Delimited after → IsTokens (place_after p text) after us
+  spelled : (after : List ℕ) (us : List Token) → Delimited after → IsTokens (position_after p text) after us
       → IsTokens p (text ++ after) (written tree us)
 
 record SpellingAll (p : Pos) (text : List ℕ) (n : ℕ) (is : Items) : Type 0 where
   trees : List Syntax
   within : WithinAll n trees
   same : unplaced_all (data_of trees) ≡ unplaced_all is
-  spelled : (after : List ℕ) (us : List Token) → Delimited after → IsTokens (place_after p text) after us
+  spelled : (after : List ℕ) (us : List Token) → Delimited after → IsTokens (position_after p text) after us
       → IsTokens p (text ++ after) (written_all trees us)
 
 -- Lists
@@ -101,15 +101,15 @@ list_datum p q [] = refl
 list_datum p q (s ∷ ss) = list_data p q s ss
 
 -- a closing parenthesis after so much of a text
-closed : (p q r : Pos) (after : List ℕ) (us : List Token) → r ≡ place_after q (codes ")") → IsTokens r after us
+closed : (p q r : Pos) (after : List ℕ) (us : List Token) → r ≡ position_after q (codes ")") → IsTokens r after us
     → IsTokens q (codes ")" ++ after) (Close q ∷ us)
-closed p q r after us e h = token q (codes ")") after (Close q) us (closes q after) (moved r (place_after q (codes ")")) after us e h)
+closed p q r after us e h = token q (codes ")") after (Close q) us (closes q after) (moved r (position_after q (codes ")")) after us e h)
 
 chain_spelled : (p r : Pos) (is : Items) (n : ℕ) → SpellingAll (after_byte p 40) (items_text is) n is
     → Spelling p (text_of (Chain r is)) (suc n) (Chain r is)
 chain_spelled p r is n s =
     let inner : Pos = after_byte p 40 in
-    let q : Pos = place_after inner (items_text is) in
+    let q : Pos = position_after inner (items_text is) in
     record {
       tree = list_tree p s.trees q;
       within = list_within p q s.trees n s.within;
@@ -122,7 +122,7 @@ chain_spelled p r is n s =
           (token p (codes "(") (items_text is ++ (codes ")" ++ after)) (Open p) (written_all s.trees (Close q ∷ us))
           (opens p (items_text is ++ (codes ")" ++ after)))
           (s.spelled (codes ")" ++ after) (Close q ∷ us) refl
-          (closed p q (place_after p (text_of (Chain r is))) after us (place_after-append inner (items_text is) (codes ")")) k))));
+          (closed p q (position_after p (text_of (Chain r is))) after us (position_after-append inner (items_text is) (codes ")")) k))));
     }
 
 -- Vectors
@@ -131,7 +131,7 @@ row_spelled : (p r : Pos) (is : Items) (n : ℕ) → SpellingAll (after_byte (af
     → Spelling p (text_of (Row r is)) (suc n) (Row r is)
 row_spelled p r is n s =
     let inner : Pos = after_byte (after_byte p 35) 40 in
-    let q : Pos = place_after inner (items_text is) in
+    let q : Pos = position_after inner (items_text is) in
     record {
       tree = Vector p (elements_of s.trees Last) q;
       within = within_elements_of s.trees Last n s.within tt;
@@ -146,7 +146,7 @@ row_spelled p r is n s =
           (token p (codes "#(") (items_text is ++ (codes ")" ++ after)) (OpenVector p) (written_all s.trees (Close q ∷ us))
           (opens_vector p (items_text is ++ (codes ")" ++ after)))
           (s.spelled (codes ")" ++ after) (Close q ∷ us) refl
-          (closed p q (place_after p (text_of (Row r is))) after us (place_after-append inner (items_text is) (codes ")")) k))));
+          (closed p q (position_after p (text_of (Row r is))) after us (position_after-append inner (items_text is) (codes ")")) k))));
     }
 
 -- Dotted lists
@@ -166,13 +166,13 @@ tailed_plain p js (DottedData q is t) (DottedData r ks d) h e = absurd h
 
 -- a dot between spaces, a datum, and then a closing parenthesis
 tail_spelled : (p : Pos) (d : Datum) (n : ℕ) (after : List ℕ) (us : List Token)
-    → (s : Spelling (place_after p (codes " . ")) (text_of d) n d)
-    → IsTokens (place_after p (codes " . " ++ (text_of d ++ codes ")"))) after us
+    → (s : Spelling (position_after p (codes " . ")) (text_of d) n d)
+    → IsTokens (position_after p (codes " . " ++ (text_of d ++ codes ")"))) after us
     → IsTokens p (codes " . " ++ (text_of d ++ (codes ")" ++ after)))
-    (Dot (after_byte p 32) ∷ written s.tree (Close (place_after (place_after p (codes " . ")) (text_of d)) ∷ us))
+    (Dot (after_byte p 32) ∷ written s.tree (Close (position_after (position_after p (codes " . ")) (text_of d)) ∷ us))
 tail_spelled p d n after us s k =
-    let start : Pos = place_after p (codes " . ") in
-    let q : Pos = place_after start (text_of d) in
+    let start : Pos = position_after p (codes " . ") in
+    let q : Pos = position_after start (text_of d) in
     let rest : List ℕ = text_of d ++ (codes ")" ++ after) in
     let at_dot : Pos = after_byte p 32 in
     white p 32 (46 ∷ 32 ∷ rest) (Dot at_dot ∷ written s.tree (Close q ∷ us)) refl
@@ -180,18 +180,18 @@ tail_spelled p d n after us s k =
     (word at_dot (32 ∷ rest) (codes ".") (Dot at_dot) (refl, tt) refl (dot at_dot))
     (white (after_byte at_dot 46) 32 rest (written s.tree (Close q ∷ us)) refl
     (s.spelled (codes ")" ++ after) (Close q ∷ us) refl
-    (closed (place_after p (codes " . " ++ (text_of d ++ codes ")"))) q (place_after p (codes " . " ++ (text_of d ++ codes ")"))) after us
-    (place_after-append start (text_of d) (codes ")")) k))))
+    (closed (position_after p (codes " . " ++ (text_of d ++ codes ")"))) q (position_after p (codes " . " ++ (text_of d ++ codes ")"))) after us
+    (position_after-append start (text_of d) (codes ")")) k))))
 
 dotted_spelled : (p r : Pos) (is : Items) (first : Syntax) (others : List Syntax) (d : Datum) (n : ℕ)
     → (items : SpellingAll (after_byte p 40) (items_text is) n is) → items.trees ≡ first ∷ others
-    → Spelling (place_after (place_after (after_byte p 40) (items_text is)) (codes " . ")) (text_of d) n d → NoList d
+    → Spelling (position_after (position_after (after_byte p 40) (items_text is)) (codes " . ")) (text_of d) n d → NoList d
     → Spelling p (text_of (DottedData r is d)) (suc n) (DottedData r is d)
 dotted_spelled p r is first others d n items e s plain =
     let inner : Pos = after_byte p 40 in
-    let middle : Pos = place_after inner (items_text is) in
+    let middle : Pos = position_after inner (items_text is) in
     let at_dot : Pos = after_byte middle 32 in
-    let q : Pos = place_after (place_after middle (codes " . ")) (text_of d) in
+    let q : Pos = position_after (position_after middle (codes " . ")) (text_of d) in
     let tree : Syntax = Listed p first (rest_of others (Tail at_dot s.tree)) q in
     let AllWithin : List Syntax → Type 0 = λ ss. WithinAll n ss in
     let fits = subst AllWithin e items.within in
@@ -220,8 +220,8 @@ dotted_spelled p r is first others d n items e s plain =
           (opens p (items_text is ++ end))
           (items.spelled end ts refl
           (tail_spelled middle d n after us s
-          (moved (place_after p (text_of (DottedData r is d))) (place_after middle last) after us
-          (place_after-append inner (items_text is) last) k)))));
+          (moved (position_after p (text_of (DottedData r is d))) (position_after middle last) after us
+          (position_after-append inner (items_text is) last) k)))));
     }
 
 -- All data
@@ -232,7 +232,7 @@ delimited_more (item d is) after h = refl
 
 -- a datum and further items
 joined : (p : Pos) (d : Datum) (is : Items) (n : ℕ) → Spelling p (text_of d) n d
-    → SpellingAll (place_after p (text_of d)) (more_text is) n is → SpellingAll p (text_of d ++ more_text is) n (item d is)
+    → SpellingAll (position_after p (text_of d)) (more_text is) n is → SpellingAll p (text_of d ++ more_text is) n (item d is)
 joined p d is n s m =
     record {
       trees = s.tree ∷ m.trees;
@@ -243,12 +243,12 @@ joined p d is n s m =
           (written s.tree (written_all m.trees us)) (sym (append_assoc (text_of d) (more_text is) after))
           (s.spelled (more_text is ++ after) (written_all m.trees us) (delimited_more is after h)
           (m.spelled after us h
-          (moved (place_after p (text_of d ++ more_text is)) (place_after (place_after p (text_of d)) (more_text is)) after us
-          (place_after-append p (text_of d) (more_text is)) k)));
+          (moved (position_after p (text_of d ++ more_text is)) (position_after (position_after p (text_of d)) (more_text is)) after us
+          (position_after-append p (text_of d) (more_text is)) k)));
     }
 
 joined_trees : (p : Pos) (d : Datum) (is : Items) (n : ℕ) (s : Spelling p (text_of d) n d)
-    (m : SpellingAll (place_after p (text_of d)) (more_text is) n is)
+    (m : SpellingAll (position_after p (text_of d)) (more_text is) n is)
     → (joined p d is n s m).trees ≡ s.tree ∷ m.trees
 unfolding joined
 joined_trees p d is n s m = refl
@@ -285,22 +285,22 @@ mutual
   datum_spelled (DottedData r (item e is) d) (suc n) p h =
       let inner : Pos = after_byte p 40 in
       let one = datum_spelled e n inner h.2.0 in
-      let more = more_spelled is n (place_after inner (text_of e)) h.2.1 in
+      let more = more_spelled is n (position_after inner (text_of e)) h.2.1 in
       dotted_spelled p r (item e is) one.tree more.trees d n (joined inner e is n one more)
       (joined_trees inner e is n one more)
-      (datum_spelled d n (place_after (place_after inner (items_text (item e is))) (codes " . ")) h.3) h.1
+      (datum_spelled d n (position_after (position_after inner (items_text (item e is))) (codes " . ")) h.3) h.1
 
   items_spelled : (is : Items) (n : ℕ) (p : Pos) → ValidAll n is → SpellingAll p (items_text is) n is
   items_spelled none n p h = nothing p n
   items_spelled (item d is) n p h =
-      joined p d is n (datum_spelled d n p h.0) (more_spelled is n (place_after p (text_of d)) h.1)
+      joined p d is n (datum_spelled d n p h.0) (more_spelled is n (position_after p (text_of d)) h.1)
 
   more_spelled : (is : Items) (n : ℕ) (p : Pos) → ValidAll n is → SpellingAll p (more_text is) n is
   more_spelled none n p h = nothing p n
   more_spelled (item d is) n p h =
       let q : Pos = after_byte p 32 in
       after_space p d is n
-      (joined q d is n (datum_spelled d n q h.0) (more_spelled is n (place_after q (text_of d)) h.1))
+      (joined q d is n (datum_spelled d n q h.0) (more_spelled is n (position_after q (text_of d)) h.1))
 
 -- Lines
 
@@ -314,7 +314,7 @@ pub lines_spelled : (is : Items) (n : ℕ) (p : Pos) → ValidAll n is → Lines
 lines_spelled none n p h = record { trees = []; within = tt; same = refl; spelled = ended p }
 lines_spelled (item d is) n p h =
     let s = datum_spelled d n p h.0 in
-    let q : Pos = place_after p (text_of d) in
+    let q : Pos = position_after p (text_of d) in
     let m = lines_spelled is n (after_byte q 10) h.1 in
     record {
       trees = s.tree ∷ m.trees;

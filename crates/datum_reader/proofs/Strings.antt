@@ -2,6 +2,7 @@
 use Rattle.std.proofs.Common.{◌≡◌, ◌≢◌, ℕ, suc, ◌+◌, Bool, true, false, List, [], ◌∷◌, ◌++◌, length, take, drop, refl, sym, ap, subst, ◌∙◌, append_assoc, append-nil, arith, cond}
 use Rattle.std.specs.Prelude.{not, ◌||◌, ◌==◌}
 use Rattle.std.specs.List.{take_while}
+use Rattle.scheme_base.proofs.Lists.{same_head}
 use Rattle.datum_form.proofs.Pieces.{length_while-step, length_while-none}
 use Rattle.datum_form.specs.Text.{Quoted, quoted, with_byte, with_bad_escape, after_backslash}
 use Rattle.datum_form.specs.Text.Quoted.{Closed, BadEscape, NeverClosed}
@@ -69,9 +70,6 @@ plain_run (b ∷ text) = at (is_plain b) refl (plain_run text)
     at false e more =
         let P : ℕ → Type 0 = λ n. RunThen (b ∷ text) n in
         subst P (sym (length_while-none (λ c. is_plain c) b text e)) (given_nothing (quoted false (b ∷ text)))
-
-same_head : (b m : ℕ) (bytes after : List ℕ) → b ∷ bytes ≡ m ∷ after → b ≡ m
-same_head b m bytes after e = cc
 
 -- a run ends before a `"` or a `\`
 run_ends : (text : List ℕ) (m : ℕ) (after : List ℕ) → drop (plain_length text) text ≡ m ∷ after → is_plain m ≡ false

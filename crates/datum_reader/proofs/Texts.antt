@@ -5,12 +5,13 @@ use Rattle.std.specs.Prelude.{not, codes}
 use Rattle.std.specs.Char.{is_ascii_whitespace}
 use Rattle.std.specs.Str.{str_to_ascii_lowercase}
 use Rattle.scheme_base.specs.declared.pos.Pos.{Pos}
-use Rattle.datum_form.specs.Grammar.{IsOneLine, AtLineEnd, place_after, IsTokens}
+use Rattle.scheme_base.specs.Positions.{position_after, is_line_end, after_byte}
+use Rattle.datum_form.specs.Grammar.{IsOneLine, AtLineEnd, IsTokens}
 use Rattle.datum_form.specs.Grammar.IsTokens.{ended, white, comment, token}
 use Rattle.datum_form.specs.Syntax.{Token}
 use Rattle.datum_form.specs.Syntax.Mark.{Quote, Quasiquote, Unquote, Splice}
 use Rattle.datum_form.specs.Syntax.Token.{Open, OpenVector, Close, Marking}
-use Rattle.datum_form.specs.Text.{Piece, Quoted, Lexed, quoted, is_line_end, run_length, line_length, word_piece, string_piece, character_piece, run_piece, mark_piece, token_piece, piece, after_byte, lexed_after}
+use Rattle.datum_form.specs.Text.{Piece, Quoted, Lexed, quoted, run_length, line_length, word_piece, string_piece, character_piece, run_piece, mark_piece, token_piece, piece, lexed_after}
 use Rattle.datum_form.specs.Text.Ending.{Clean, BadAt, RangeAt, OpenAt}
 use Rattle.datum_form.specs.Text.Piece.{Blank, Found, BadToken, BadNumber, OpenText}
 use Rattle.datum_form.specs.Text.Quoted.{Closed, BadEscape, NeverClosed}
@@ -72,15 +73,15 @@ line_of (b ∷ bytes) = at (is_line_end b) refl (line_of bytes)
 
 -- after a comment
 pub past_comment : (p : Pos) (line after : List ℕ) → IsOneLine line → AtLineEnd after
-    → lexed_after 0 p (59 ∷ (line ++ after)) ≡ lexed_after 0 (place_after p (59 ∷ line)) after
+    → lexed_after 0 p (59 ∷ (line ++ after)) ≡ lexed_after 0 (position_after p (59 ∷ line)) after
 past_comment p line after one end =
     let start : List ℕ = 59 ∷ line in
     let text : List ℕ = start ++ after in
     let count : line_length text ≡ length start =
     length_while-step (λ c. not (is_line_end c)) 59 (line ++ after) refl ∙ ap (λ n. suc n) (line_length-append line after one end) in
     sym (after_blank p text (length start) (omega arith) (ap (λ n. Blank n) count))
-    ∙ (ap (λ l. lexed_after 0 (place_after p l) (drop (length start) text)) (take-append_seam start after)
-    ∙ ap (lexed_after 0 (place_after p start)) (drop-append_seam start after))
+    ∙ (ap (λ l. lexed_after 0 (position_after p l) (drop (length start) text)) (take-append_seam start after)
+    ∙ ap (lexed_after 0 (position_after p start)) (drop-append_seam start after))
 
 pub past_white : (p : Pos) (b : ℕ) (bytes : List ℕ) → is_ascii_whitespace b ≡ true
     → lexed_after 0 p (b ∷ bytes) ≡ lexed_after 0 (after_byte p b) bytes
@@ -93,21 +94,21 @@ some_text p [] t n e = absurd (cc)
 some_text p (b ∷ bytes) t n e = omega arith
 
 pub past_token : (p : Pos) (word after : List ℕ) (t : Token) → piece p (word ++ after) ≡ Found t (length word)
-    → lexed_after 0 p (word ++ after) ≡ token_then t (lexed_after 0 (place_after p word) after)
+    → lexed_after 0 p (word ++ after) ≡ token_then t (lexed_after 0 (position_after p word) after)
 past_token p word after t e =
     let text : List ℕ = word ++ after in
     at_token p text t (length word) (some_text p text t (length word) e) e
-    ∙ (ap (λ l. token_then t (lexed_after 0 (place_after p l) (drop (length word) text))) (take-append_seam word after)
-    ∙ ap (λ l. token_then t (lexed_after 0 (place_after p word) l)) (drop-append_seam word after))
+    ∙ (ap (λ l. token_then t (lexed_after 0 (position_after p l) (drop (length word) text))) (take-append_seam word after)
+    ∙ ap (λ l. token_then t (lexed_after 0 (position_after p word) l)) (drop-append_seam word after))
 
 pub tokens_lexed : (p : Pos) (text : List ℕ) (ts : List Token) → IsTokens p text ts → lexed_after 0 p text ≡ clean ts
 tokens_lexed p text ts (ended q) = refl
 tokens_lexed p text ts (white q b rest us h more) = past_white p b rest h ∙ tokens_lexed (after_byte p b) rest ts more
 tokens_lexed p text ts (comment q line rest us one end more) =
-    past_comment p line rest one end ∙ tokens_lexed (place_after p (59 ∷ line)) rest ts more
+    past_comment p line rest one end ∙ tokens_lexed (position_after p (59 ∷ line)) rest ts more
 tokens_lexed p text ts (token q word rest t us h more) =
     past_token p word rest t (token_found p word rest t h)
-    ∙ ap (token_then t) (tokens_lexed (place_after p word) rest us more)
+    ∙ ap (token_then t) (tokens_lexed (position_after p word) rest us more)
 
 -- The other way
 
@@ -194,14 +195,14 @@ token_shown k b p bytes ts (Found t n) few is its none e more =
     let some : 0 < n = piece_length_some p text (Found t n) (omega arith) is in
     let found : piece p (f.bytes ++ f.after) ≡ Found t (length f.bytes) =
     sym (ap (piece p) f.whole) ∙ (is ∙ ap (λ m. Found t m) f.count) in
-    let rest : token_then t (lexed_after 0 (place_after p f.bytes) f.after) ≡ clean ts =
+    let rest : token_then t (lexed_after 0 (position_after p f.bytes) f.after) ≡ clean ts =
     sym (past_token p f.bytes f.after t found) ∙ (sym (ap (lexed_after 0 p) f.whole) ∙ e) in
-    let r = tail_of t (lexed_after 0 (place_after p f.bytes) f.after) ts rest in
+    let r = tail_of t (lexed_after 0 (position_after p f.bytes) f.after) ts rest in
     let less : length f.after ≤ k = omega (arith, few, some, f.count, ap length f.whole, length-append f.bytes f.after) in
     let P : List ℕ → Type 0 = λ l. IsTokens p l ts in
     let Q : List Token → Type 0 = λ us. IsTokens p (f.bytes ++ f.after) us in
     subst P (sym f.whole)
-    (subst Q (sym r.whole) (token p f.bytes f.after t r.others f.has (more (place_after p f.bytes) f.after r.others less r.rest)))
+    (subst Q (sym r.whole) (token p f.bytes f.after t r.others f.has (more (position_after p f.bytes) f.after r.others less r.rest)))
 token_shown k b p bytes ts BadToken few is its none e more =
     absurd (differ (bad (ends (BadAt p)) ts (sym (at_bad_token p (b ∷ bytes) (omega arith) is) ∙ e)))
   where
@@ -227,7 +228,7 @@ comment_shown k b p bytes ts few mark e more =
     let P : List ℕ → Type 0 = λ r. IsTokens p r ts in
     subst P (sym whole)
     (comment p l.line l.after ts l.one l.end
-    (more (place_after p (59 ∷ l.line)) l.after ts less
+    (more (position_after p (59 ∷ l.line)) l.after ts less
     (sym (past_comment p l.line l.after l.one l.end) ∙ (sym (ap (lexed_after 0 p) whole) ∙ e))))
 
 pub first_byte : (b : ℕ) (bytes : List ℕ) → begins_with (b ∷ bytes) (codes ";") ≡ true → b ≡ 59

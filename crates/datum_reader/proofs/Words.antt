@@ -2,9 +2,10 @@
 use Rattle.std.proofs.Common.{◌≡◌, ℕ, Bool, true, false, List, Option, Some, None, refl, ap}
 use Rattle.std.specs.Prelude.{ℤ}
 use Rattle.scheme_base.specs.declared.pos.Pos.{Pos}
+use Rattle.scheme_base.specs.Integers.{in_range}
 use Rattle.datum_form.specs.Syntax.Atom.{Integer}
 use Rattle.datum_form.specs.Syntax.Token.{Single}
-use Rattle.datum_form.specs.Words.{in_range, name_word, number_or_name}
+use Rattle.datum_form.specs.Words.{name_word, number_or_name}
 use Rattle.datum_form.specs.Words.Word.{IsToken, OutOfRange}
 use Rattle.datum_reader.specs.declared.number.Numeral.TheVariants.{NoNumber, OutOfRange as Outside, Value}
 use Rattle.datum_reader.specs.Numbers.{ranged, numeral_of}

@@ -4,12 +4,13 @@
 -- after which no such text goes on, or at what is still open at its end.
 use Rattle.std.specs.Prelude.{◌≡◌, ℕ, ◌<◌, ◌≤◌, List, length, ◌++◌, Option, Some, None, ◌⊎◌, Result, Ok, Err}
 use Rattle.scheme_base.specs.declared.pos.Pos.{Pos}
+use Rattle.scheme_base.specs.Positions.{position_after}
 use Rattle.datum_form.specs.Syntax.{Token, Syntax, IsText, Begins}
 use Rattle.datum_form.specs.Data.{Items, data_of, unplaced_all}
 use Rattle.datum_form.specs.Print.{lines_of}
 use Rattle.datum_form.specs.Stands.{Holds}
 use Rattle.datum_form.specs.declared.datums.Datums.{Datums}
-use Rattle.datum_form.specs.Grammar.{IsSpelled, IsToken, place_after}
+use Rattle.datum_form.specs.Grammar.{IsSpelled, IsToken}
 use Rattle.datum_form.specs.Faults.{Strays, Deepens, Unclosed as UnclosedTokens}
 use Rattle.datum_form.specs.Text.{Ending, Lexed, lexed}
 use Rattle.datum_form.specs.Text.Ending.{Clean, BadAt, RangeAt, OpenAt}
@@ -55,7 +56,7 @@ pub record NoToken (start : Pos) (text : List ℕ) (p : Pos) : Type 0 where
   pub rest : List ℕ
   pub whole : text ≡ front ++ rest
   pub some : 0 < length rest
-  pub place : p ≡ place_after start front
+  pub place : p ≡ position_after start front
   pub none : (word after : List ℕ) (t : Token) → rest ≡ word ++ after → IsToken p word after t → ⊥
 
 -- the tokens of a text begin a text, and then comes what is no token

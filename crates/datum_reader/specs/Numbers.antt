@@ -1,6 +1,6 @@
 -- What the reader makes of a number: its value where it is in range.
 use Rattle.std.specs.Prelude.{ℕ, ℤ, Bool, true, false, Option, Some, None, min}
-use Rattle.datum_form.specs.Words.{in_range}
+use Rattle.scheme_base.specs.Integers.{in_range}
 use Rattle.datum_reader.specs.declared.number.Numeral.{Numeral}
 use Rattle.datum_reader.specs.declared.number.Numeral.TheVariants.{NoNumber, OutOfRange, Value}
 

@@ -1,9 +1,8 @@
 ghost use Rattle.std.specs.Prelude.{◌≡◌, ◌+◌, ◌^◌, ◌<◌, ◌≤◌, length, take, drop, IfOk};
-ghost use Rattle.datum_form.specs.Grammar.{place_after};
+ghost use Rattle.scheme_base.specs.Positions.{position_after};
 ghost use Rattle.datum_reader.specs.Lexing.{Scans, Shorter};
 
 use crate::piece::{Piece, first_piece};
-use crate::place::place_after;
 use crate::token::Token;
 use scheme_base::Pos;
 use std::alloc::{AllocError, Global};
@@ -34,14 +33,14 @@ fn past(spot: Spot<'_>, count: usize) -> Spot<'_>
     requires col { spot.pos.col + length spot.rest.now < 2 ^ 32 }
     requires within { count ≤ length spot.rest.now }
     ensures rest { result.rest.now ≡ drop count spot.entry.rest.now }
-    ensures pos { result.pos ≡ place_after spot.entry.pos (take count spot.entry.rest.now) }
+    ensures pos { result.pos ≡ position_after spot.entry.pos (take count spot.entry.rest.now) }
     ensures line { result.pos.line + length result.rest.now ≤ spot.entry.pos.line + length spot.entry.rest.now }
     ensures col { result.pos.col + length result.rest.now ≤ spot.entry.pos.col + length spot.entry.rest.now }
 {
     let (front, rest) = spot.rest.split_at(count);
     Spot {
         rest,
-        pos: place_after(spot.pos, front),
+        pos: spot.pos.after(front),
     }
 }
 

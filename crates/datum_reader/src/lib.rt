@@ -6,7 +6,7 @@
 //! tokens, `same_texts` that the tokens which are found from left to right are those of the grammar,
 //! `no_token` that where they stop before the text's end the grammar has none, and `printed_data` that what `write_text` prints of them reads as the same data.
 //!
-//! The code finds a text's next token (`lexer`, `piece`, `word`, `number`, `string`, `place`) and gives it to
+//! The code finds a text's next token (`lexer`, `piece`, `word`, `number`, `string`) and gives it to
 //! what is open (`reading`, `level`), where it becomes nodes (`nodes`). A token is looked at once, and a
 //! string or a name is taken over in pieces. `specs/Machine` is what the code does to a token, by trees in
 //! place of nodes; `proofs/` show that it ends with the trees of the text exactly where there are some, and
@@ -20,7 +20,6 @@ mod lexer;
 mod nodes;
 mod number;
 mod piece;
-mod place;
 mod read;
 mod reading;
 mod string;

@@ -1,9 +1,14 @@
+pub mod AtomText
+pub mod Constants
+pub mod Heaps
+pub mod Integers
 pub mod Laws
 pub mod Limit
 pub mod Literals
 pub mod Operands
 pub mod Operations
 pub mod Outside
+pub mod Positions
 pub mod Runs
 pub mod Stops
 pub mod Values

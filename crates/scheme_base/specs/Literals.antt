@@ -1,14 +1,15 @@
 -- Literals: which constant a number in a list of literals stands for, and which value and object it is in a
 -- run (R4RS 4.1.2).
-use Rattle.std.specs.Prelude.{ℕ, suc, ◌+◌, ℤ, pos, negsuc, int_le, ◌≡◌, ◌&&◌, if◌then◌else◌, List, [], ◌∷◌, ◌++◌, length, map, slice_get, Option, Some, None, Bool, false, IsTrue}
+use Rattle.std.specs.Prelude.{ℕ, suc, ◌+◌, ◌≡◌, if◌then◌else◌, nat_eq, List, [], ◌∷◌, ◌++◌, length, map, slice_get, Option, Some, None, Bool, false}
 use Rattle.std.specs.Str.{bytes_eq}
 use Rattle.scheme_base.specs.declared.lit.Lit.{Lit}
 use Rattle.scheme_base.specs.declared.lit.Lit.TheVariants as lit
-use Rattle.scheme_base.specs.Values.{Value, Integer, Character, Nil, Unspecified, Undefined, Object, Content, Pair, Text, Vector, Symbol, Blank, Thing, Datum, OfLiteral, NameOfLiteral, truth}
+use Rattle.scheme_base.specs.Constants.{Constant, Constant as constant, Constants, none, item}
+use Rattle.scheme_base.specs.Values.{Value, Integer, Character, Nil, Unspecified, Undefined, Object, Content, Pair, String, Vector, Symbol, Blank, Thing, Holding, OfLiteral, NameOfLiteral, truth}
 
 -- The values and objects of a run. A run begins with the objects of its literals: that of literal i has the
 -- number i, and the name of literal symbol i comes after all literals. Symbols of one name are one object,
--- that of the first (R4RS 6.4).
+-- that of the first (R4RS 6.4); the numbers of the later ones and of their names are blank.
 
 abbrev pub is_symbol : List ℕ → Lit → Bool
 is_symbol name (lit.Symbol other) = bytes_eq name other
@@ -36,47 +37,35 @@ value_in lits i (Some (lit.Vector ids)) = Object i
 abbrev pub literal : List Lit → (i : ℕ) → Value
 literal lits i = value_in lits i (slice_get lits i)
 
+-- whether no literal before i is a symbol of this name
+abbrev pub is_first : List Lit → (i : ℕ) → (name : List ℕ) → Bool
+is_first lits i name = nat_eq (first_symbol name lits 0) i
+
 -- what the object of literal i holds
 abbrev pub content_of : List Lit → (i : ℕ) → Lit → Content
-content_of lits i (lit.Symbol name) = Symbol (Object (length lits + i))
-content_of lits i (lit.Text bytes) = Text bytes
+content_of lits i (lit.Symbol name) = if is_first lits i name then Symbol (Object (length lits + i)) else Blank
+content_of lits i (lit.Text bytes) = String bytes
 content_of lits i (lit.Pair car cdr) = Pair (literal lits car) (literal lits cdr)
 content_of lits i (lit.Vector ids) = Vector (map (literal lits) ids)
 content_of lits i l = Blank
 
-abbrev pub name_content : Lit → Content
-name_content (lit.Symbol name) = Text name
-name_content l = Blank
+-- what the object holds that is the name of literal symbol i
+abbrev pub name_content : List Lit → (i : ℕ) → Lit → Content
+name_content lits i (lit.Symbol name) = if is_first lits i name then String name else Blank
+name_content lits i l = Blank
 
--- what the objects of these literals hold, which are numbered from i
-abbrev pub contents_of : List Lit → (i : ℕ) → List Lit → List Content
-contents_of lits i [] = []
-contents_of lits i (l ∷ ls) = content_of lits i l ∷ contents_of lits (suc i) ls
+-- the contents of these literals, which are numbered from i
+abbrev pub contents_by : (ℕ → Lit → Content) → (i : ℕ) → List Lit → List Content
+contents_by content i [] = []
+contents_by content i (l ∷ ls) = content i l ∷ contents_by content (suc i) ls
 
 -- the objects with which a run begins
 abbrev pub literal_objects : {P : Type 0} → List Lit → List (Thing P)
 literal_objects lits =
-    map (λ c. Datum OfLiteral c) (contents_of lits 0 lits)
-    ++ map (λ l. Datum NameOfLiteral (name_content l)) lits
+    map (λ c. Holding OfLiteral c) (contents_by (content_of lits) 0 lits)
+    ++ map (λ c. Holding NameOfLiteral c) (contents_by (name_content lits) 0 lits)
 
--- Constants, as trees
-
-mutual
-  pub data Constant : Type 0 where
-    Number : ℤ → Constant
-    Truth : Bool → Constant
-    Letter : (byte : ℕ) → Constant
-    Empty : Constant
-    Unnamed : Constant
-    Hole : Constant
-    Name : List ℕ → Constant
-    Words : List ℕ → Constant
-    Couple : Constant → Constant → Constant
-    Row : Constants → Constant
-
-  pub data Constants : Type 0 where
-    none : Constants
-    item : Constant → Constants → Constants
+-- Where a constant's literals stand
 
 abbrev pub IsLit : List Lit → ℕ → Lit → Type 0
 IsLit lits i l = slice_get lits i ≡ Some l
@@ -85,37 +74,20 @@ abbrev mutual
   -- the literals from number i up to j, j excluded, are this constant and its parts in preorder: each
   -- before its parts, a pair's car before its cdr, a vector's items in order. No part is shared.
   pub Laid : List Lit → ℕ → Constant → ℕ → Type 0
-  Laid lits i (Number z) j = IsLit lits i (lit.Integer z) × (j ≡ suc i)
-  Laid lits i (Truth b) j = IsLit lits i (lit.Boolean b) × (j ≡ suc i)
-  Laid lits i (Letter byte) j = IsLit lits i (lit.Char byte) × (j ≡ suc i)
-  Laid lits i Empty j = IsLit lits i lit.Nil × (j ≡ suc i)
-  Laid lits i Unnamed j = IsLit lits i lit.Unspecified × (j ≡ suc i)
-  Laid lits i Hole j = IsLit lits i lit.Undefined × (j ≡ suc i)
-  Laid lits i (Name name) j = IsLit lits i (lit.Symbol name) × (j ≡ suc i)
-  Laid lits i (Words bytes) j = IsLit lits i (lit.Text bytes) × (j ≡ suc i)
-  Laid lits i (Couple a d) j =
+  Laid lits i (constant.Integer z) j = IsLit lits i (lit.Integer z) × (j ≡ suc i)
+  Laid lits i (constant.Boolean b) j = IsLit lits i (lit.Boolean b) × (j ≡ suc i)
+  Laid lits i (constant.Character byte) j = IsLit lits i (lit.Char byte) × (j ≡ suc i)
+  Laid lits i constant.Nil j = IsLit lits i lit.Nil × (j ≡ suc i)
+  Laid lits i constant.Unspecified j = IsLit lits i lit.Unspecified × (j ≡ suc i)
+  Laid lits i constant.Undefined j = IsLit lits i lit.Undefined × (j ≡ suc i)
+  Laid lits i (constant.Symbol name) j = IsLit lits i (lit.Symbol name) × (j ≡ suc i)
+  Laid lits i (constant.String bytes) j = IsLit lits i (lit.Text bytes) × (j ≡ suc i)
+  Laid lits i (constant.Pair a d) j =
       (cdr : ℕ) × IsLit lits i (lit.Pair (suc i) cdr) × Laid lits (suc i) a cdr × Laid lits cdr d j
-  Laid lits i (Row cs) j = (ids : List ℕ) × IsLit lits i (lit.Vector ids) × LaidAll lits ids (suc i) cs j
+  Laid lits i (constant.Vector cs) j =
+      (ids : List ℕ) × IsLit lits i (lit.Vector ids) × LaidAll lits ids (suc i) cs j
 
   pub LaidAll : List Lit → List ℕ → ℕ → Constants → ℕ → Type 0
   LaidAll lits ids i none j = (ids ≡ []) × (j ≡ i)
   LaidAll lits ids i (item c cs) j =
       (others : List ℕ) × (next : ℕ) × (ids ≡ i ∷ others) × Laid lits i c next × LaidAll lits others next cs j
-
--- whole numbers of the profile
-abbrev pub in_range : ℤ → Bool
-in_range z = int_le (negsuc 2305843009213693951) z && int_le z (pos 2305843009213693951)
-
-abbrev mutual
-  -- a constant that can be a part of a literal: its numbers are in range, and nothing in it is the
-  -- undefined value
-  pub IsPart : Constant → Type 0
-  IsPart (Number z) = IsTrue (in_range z)
-  IsPart Hole = ⊥
-  IsPart (Couple a d) = IsPart a × IsPart d
-  IsPart (Row cs) = ArePartsAll cs
-  IsPart c = Unit {0}
-
-  pub ArePartsAll : Constants → Type 0
-  ArePartsAll none = Unit {0}
-  ArePartsAll (item c cs) = IsPart c × ArePartsAll cs

@@ -3,7 +3,7 @@ use Rattle.std.specs.Prelude.{ℕ, List, [], ◌∷◌, codes}
 use Rattle.scheme_base.specs.declared.op.Op.{Op}
 use Rattle.scheme_base.specs.declared.op.Op.TheVariants as op
 
--- what an operation takes at a place
+-- what an operation takes as an operand
 pub data Kind : Type 0 where
   Any : Kind
   AnInteger : Kind

@@ -2,7 +2,7 @@
 --
 -- An operation sees its operands, the objects that they name and the input's look-ahead. Its outcome says
 -- what it gives, which one object it makes or changes, or why it stops; a machine carries the outcome out.
--- All operands are looked at before anything else, from left to right.
+-- The types of all operands come first, then whether a literal is written to, then ranges and divisors.
 use Rattle.std.specs.Prelude.{ℕ, zero, suc, ℤ, pos, negsuc, ◌+ℤ◌, ◌-ℤ◌, ◌*ℤ◌, int_lt, int_div, int_rem, nat_eq, nat_lt, nat_le, ◌&&◌, ◌||◌, if◌then◌else◌, List, [], ◌∷◌, ◌++◌, length, replicate, slice_get, slice_set, Option, Some, None, Bool, true, false}
 use Rattle.std.specs.Option.{option_map}
 use Rattle.std.specs.Ordering.{int_eq}
@@ -10,10 +10,10 @@ use Rattle.scheme_base.specs.declared.env.Env.{Env}
 use Rattle.scheme_base.specs.declared.op.Op.{Op}
 use Rattle.scheme_base.specs.declared.op.Op.TheVariants as op
 use Rattle.scheme_base.specs.declared.error.ErrKind.{ErrKind}
-use Rattle.scheme_base.specs.declared.error.ErrKind.TheVariants.{WrongType, Index, NotProcedure, Overflow, ZeroDivisor}
+use Rattle.scheme_base.specs.declared.error.ErrKind.TheVariants.{WrongType, Index, NotProcedure, Overflow, ZeroDivisor, LiteralWritten}
 use Rattle.scheme_base.specs.Outside.{Event, ReadByte, ReadEnd, Calls, no_calls, next_fails, read_event, after_read, after_write}
-use Rattle.scheme_base.specs.Values.{Value, Integer, Character, False, True, Nil, Unspecified, Eof, Undefined, Object, Box, Origin, ByRun, Content, Pair, Text, Vector, Symbol, Blank, Thing, Datum, Procedure, truth}
-use Rattle.scheme_base.specs.Literals.{in_range}
+use Rattle.scheme_base.specs.Values.{Value, Integer, Character, False, True, Nil, Unspecified, Eof, Undefined, Object, Box, Origin, ByRun, OfLiteral, NameOfLiteral, Content, Pair, String, Vector, Symbol, Blank, Thing, Holding, Procedure, truth}
+use Rattle.scheme_base.specs.Integers.{in_range}
 use Rattle.scheme_base.specs.Operands.{Kind, Any, AnInteger, ACharacter, APair, AString, AVector, ASymbol, operands_of}
 
 -- What an operation sees
@@ -67,6 +67,18 @@ abbrev pub content_at : Sight → Value → Content
 content_at s (Object n) = held (s.at n)
 content_at s v = Blank
 
+-- a part of a literal, or the name of a literal symbol
+abbrev pub is_constant : Seen → Bool
+is_constant (Holds ByRun c) = false
+is_constant (Holds OfLiteral c) = true
+is_constant (Holds NameOfLiteral c) = true
+is_constant seen = false
+
+-- whether a value names what may not be written to
+abbrev pub is_literal : Sight → Value → Bool
+is_literal s (Object n) = is_constant (s.at n)
+is_literal s v = false
+
 abbrev pub called : Seen → Bool
 called IsProcedure = true
 called seen = false
@@ -100,9 +112,9 @@ abbrev pub is_pair : Content → Bool
 is_pair (Pair a d) = true
 is_pair c = false
 
-abbrev pub is_text : Content → Bool
-is_text (Text chars) = true
-is_text c = false
+abbrev pub is_string : Content → Bool
+is_string (String chars) = true
+is_string c = false
 
 abbrev pub is_vector : Content → Bool
 is_vector (Vector items) = true
@@ -117,7 +129,7 @@ fits s Any v = true
 fits s AnInteger v = is_integer v
 fits s ACharacter v = is_character v
 fits s APair v = is_pair (content_at s v)
-fits s AString v = is_text (content_at s v)
+fits s AString v = is_string (content_at s v)
 fits s AVector v = is_vector (content_at s v)
 fits s ASymbol v = is_symbol (content_at s v)
 
@@ -150,7 +162,7 @@ cdr_of (Pair a d) = d
 cdr_of c = Unspecified
 
 abbrev pub chars_of : Content → List ℕ
-chars_of (Text chars) = chars
+chars_of (String chars) = chars
 chars_of c = []
 
 abbrev pub items_of : Content → List Value
@@ -213,6 +225,11 @@ abbrev pub item_or : {A : Type 0} → A → Option A → A
 item_or a None = a
 item_or a (Some b) = b
 
+-- what is written to is no literal (R4RS 3.5)
+abbrev pub written_to : (literal : Bool) → Outcome → Outcome
+written_to true outcome = Fails LiteralWritten
+written_to false outcome = outcome
+
 -- Lists of operands (R4RS 6.9)
 
 -- what a value is as a list
@@ -270,13 +287,13 @@ from_input peeks env calls (Some byte) = Passes (Character byte) (record { calls
 from_input peeks env calls None =
     from_event peeks (after_read env calls) (read_event (next_fails env calls) calls.input)
 
-abbrev pub written : Channels → (failed : Bool) → Outcome
-written channels true = Breaks channels
-written channels false = Passes Unspecified channels
+abbrev pub output_after : Channels → (failed : Bool) → Outcome
+output_after channels true = Breaks channels
+output_after channels false = Passes Unspecified channels
 
 abbrev pub to_output : Env → Channels → ℕ → Outcome
 to_output env channels byte =
-    written (record { calls = after_write env byte channels.calls; ahead = channels.ahead })
+    output_after (record { calls = after_write env byte channels.calls; ahead = channels.ahead })
     (next_fails env channels.calls)
 
 -- The operations, on operands of the right kinds: the first, the second and the third, with what the
@@ -286,7 +303,7 @@ abbrev pub act : Env → Sight → Channels → Op → (c : Content) (v w x : Va
 act env s ch op.Eqv c v w x = Answers (truth (same v w))
 act env s ch op.IsPair c v w x = Answers (truth (is_pair c))
 act env s ch op.IsSymbol c v w x = Answers (truth (is_symbol c))
-act env s ch op.IsString c v w x = Answers (truth (is_text c))
+act env s ch op.IsString c v w x = Answers (truth (is_string c))
 act env s ch op.IsVector c v w x = Answers (truth (is_vector c))
 act env s ch op.IsProcedure c v w x = Answers (truth (is_procedure s v))
 act env s ch op.IsInteger c v w x = Answers (truth (is_integer v))
@@ -297,8 +314,8 @@ act env s ch op.IsEof c v w x = Answers (truth (is_eof v))
 act env s ch op.Cons c v w x = Makes (Pair v w)
 act env s ch op.Car c v w x = Answers (car_of c)
 act env s ch op.Cdr c v w x = Answers (cdr_of c)
-act env s ch op.SetCar c v w x = Changes (number_of v) (Pair w (cdr_of c))
-act env s ch op.SetCdr c v w x = Changes (number_of v) (Pair (car_of c) w)
+act env s ch op.SetCar c v w x = written_to (is_literal s v) (Changes (number_of v) (Pair w (cdr_of c)))
+act env s ch op.SetCdr c v w x = written_to (is_literal s v) (Changes (number_of v) (Pair (car_of c) w))
 act env s ch op.Add c v w x = whole (integer_of v +ℤ integer_of w)
 act env s ch op.Subtract c v w x = whole (integer_of v -ℤ integer_of w)
 act env s ch op.Multiply c v w x = whole (integer_of v *ℤ integer_of w)
@@ -312,7 +329,7 @@ act env s ch op.CharToInteger c v w x = Answers (Integer (pos (byte_of v)))
 act env s ch op.IntegerToChar c v w x = character (integer_of v)
 act env s ch op.SymbolName c v w x = Answers (symbol_name c)
 act env s ch op.MakeSymbol c v w x = Makes (Symbol v)
-act env s ch op.MakeString c v w x = as_length (integer_of v) (λ n. Text (replicate n (byte_of w)))
+act env s ch op.MakeString c v w x = as_length (integer_of v) (λ n. String (replicate n (byte_of w)))
 act env s ch op.MakeVector c v w x = as_length (integer_of v) (λ n. Vector (replicate n w))
 act env s ch op.StringLength c v w x = Answers (Integer (pos (length (chars_of c))))
 act env s ch op.VectorLength c v w x = Answers (Integer (pos (length (items_of c))))
@@ -321,9 +338,11 @@ act env s ch op.StringRef c v w x =
 act env s ch op.VectorRef c v w x =
     as_index (integer_of w) (length (items_of c)) (λ i. Answers (item_or Unspecified (slice_get (items_of c) i)))
 act env s ch op.StringSet c v w x =
-    as_index (integer_of w) (length (chars_of c)) (λ i. Changes (number_of v) (Text (slice_set (chars_of c) i (byte_of x))))
+    written_to (is_literal s v)
+    (as_index (integer_of w) (length (chars_of c)) (λ i. Changes (number_of v) (String (slice_set (chars_of c) i (byte_of x)))))
 act env s ch op.VectorSet c v w x =
-    as_index (integer_of w) (length (items_of c)) (λ i. Changes (number_of v) (Vector (slice_set (items_of c) i x)))
+    written_to (is_literal s v)
+    (as_index (integer_of w) (length (items_of c)) (λ i. Changes (number_of v) (Vector (slice_set (items_of c) i x))))
 act env s ch op.ReadChar c v w x = from_input false env ch.calls ch.ahead
 act env s ch op.PeekChar c v w x = from_input true env ch.calls ch.ahead
 act env s ch op.WriteChar c v w x = to_output env ch (byte_of v)
@@ -375,17 +394,17 @@ channels_after channels (Passes v after) = after
 channels_after channels (Breaks after) = after
 channels_after channels outcome = channels
 
--- a store of objects alone
+-- the objects of a machine that notes nothing else beside them
 abbrev pub plain_seen : {P : Type 0} → Thing P → Seen
-plain_seen (Datum o c) = Holds o c
+plain_seen (Holding o c) = Holds o c
 plain_seen (Procedure p) = IsProcedure
 
 abbrev pub plain_change : {P : Type 0} → Content → Thing P → Thing P
-plain_change c (Datum o d) = Datum o c
+plain_change c (Holding o d) = Holding o c
 plain_change c (Procedure p) = Procedure p
 
 abbrev pub plain_store : {P : Type 0} → Store (Thing P)
-plain_store = record { seen = plain_seen; enter = λ c. Datum ByRun c; change = plain_change }
+plain_store = record { seen = plain_seen; enter = λ c. Holding ByRun c; change = plain_change }
 
 -- The list of these values that is made where objects have the numbers from n on: what its pairs hold, the
 -- first pair first, and its value.

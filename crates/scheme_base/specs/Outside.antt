@@ -1,8 +1,8 @@
 -- The outside of a run: what passes on its channels under an environment, and how it ends.
 --
 -- Channel 0 is the input, channel 1 the output, channel 2 the channel for errors. Each call passes one
--- byte at most.
-use Rattle.std.specs.Prelude.{ℕ, ◌+◌, List, [], ◌∷◌, length, Option, Some, None, Bool, true, false, nat_eq, ◌||◌}
+-- byte at most; an item of an input gives its number modulo 256, so that each environment is one of bytes.
+use Rattle.std.specs.Prelude.{ℕ, ◌+◌, ◌%◌, List, [], ◌∷◌, ◌++◌, length, Option, Some, None, Bool, true, false, nat_eq, ◌||◌}
 use Rattle.scheme_base.specs.declared.env.Env.{Env}
 
 -- one call on channel 0 or 1, with its byte and its answer
@@ -39,7 +39,7 @@ abbrev pub read_event : (fails : Bool) → List (Option ℕ) → Event
 read_event true items = ReadFailed
 read_event false [] = ReadEnd
 read_event false (None ∷ items) = ReadEnd
-read_event false (Some byte ∷ items) = ReadByte byte
+read_event false (Some item ∷ items) = ReadByte (item % 256)
 
 abbrev pub items_after : (fails : Bool) → List (Option ℕ) → List (Option ℕ)
 items_after true items = items
@@ -71,9 +71,15 @@ next_error_fails env calls = lists env.err_failing (length calls.sent + 1)
 abbrev pub after_send : ℕ → Calls → Calls
 after_send byte calls = record { input = calls.input; trace = calls.trace; sent = byte ∷ calls.sent }
 
+-- what a run has written to channel 1: the bytes of the writes that succeeded, the oldest first
+abbrev pub written : List Event → List ℕ
+written [] = []
+written (Wrote byte ∷ es) = written es ++ byte ∷ []
+written (e ∷ es) = written es
+
 -- how a run ends, as it is seen from outside
 pub data Ending : Type 0 where
   -- with a status, and with all that it has sent to channel 2, the oldest first
   Exits : (status : ℕ) (sent : List ℕ) → Ending
-  -- by a trap of the machine, of this kind and at this place
+  -- by a trap of the machine, of this kind and at this address
   Traps : (kind pc : ℕ) → Ending

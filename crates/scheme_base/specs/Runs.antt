@@ -1,6 +1,6 @@
 -- Runs of machines, and when two of them are the same to everybody outside.
-use Rattle.std.specs.Prelude.{ℕ, zero, suc, ◌≡◌, List, Option, Some}
-use Rattle.scheme_base.specs.Outside.{Event, Ending}
+use Rattle.std.specs.Prelude.{ℕ, zero, suc, ◌≤◌, ◌≡◌, ◌⊎◌, List, ◌∷◌, ◌++◌, length, Option, Some}
+use Rattle.scheme_base.specs.Outside.{Event, Ending, written}
 
 -- A machine over states S. Its trace has the calls on channels 0 and 1, the newest first; a state that
 -- has an ending has stopped.
@@ -13,6 +13,21 @@ pub record Machine (S : Type 0) : Type 0 where
 abbrev pub after : {S : Type 0} → Machine S → ℕ → S → S
 after machine zero s = s
 after machine (suc n) s = after machine n (machine.step s)
+
+-- a trace has grown by one call at most
+abbrev pub GrowsByOne : (before now : List Event) → Type 0
+GrowsByOne before now = (now ≡ before) ⊎ ((e : Event) × (now ≡ e ∷ before))
+
+-- a machine that stays where it has stopped, and makes one call a step at most
+pub record Lawful {S : Type 0} (machine : Machine S) : Type 0 where
+  pub stays : (s : S) (e : Ending) → machine.ending s ≡ Some e → machine.step s ≡ s
+  pub grows : (s : S) → GrowsByOne (machine.trace s) (machine.trace (machine.step s))
+
+-- what was written has got so many bytes more at its end
+pub record WritesMore (most : ℕ) (before now : List Event) : Type 0 where
+  pub more : List ℕ
+  pub whole : written now ≡ written before ++ more
+  pub few : length more ≤ most
 
 -- a state has stopped with this ending and this trace
 pub record HasEnded {S : Type 0} (machine : Machine S) (s : S) (e : Ending) (calls : List Event) : Type 0 where

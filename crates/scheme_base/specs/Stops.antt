@@ -7,7 +7,7 @@ use Rattle.scheme_base.specs.Outside.{Ending, Exits}
 
 pub data Stop : Type 0 where
   End : Stop
-  Error : ErrKind → (place : Pos) → Stop
+  Error : ErrKind → (position : Pos) → Stop
   -- a read of channel 0 or a write of channel 1 failed
   IoStop : Stop
 
@@ -24,11 +24,11 @@ number_of LiteralWritten = 9
 
 -- the line that an error's report is
 abbrev pub report : ErrKind → Pos → List ℕ
-report kind place =
-    codes "error " ++ (decimal (number_of kind) ++ (codes " at " ++ (decimal place.line ++ (codes ":" ++ (decimal place.col ++ codes "\n")))))
+report kind position =
+    codes "error " ++ (decimal (number_of kind) ++ (codes " at " ++ (decimal position.line ++ (codes ":" ++ (decimal position.col ++ codes "\n")))))
 
 -- the status, and what is sent to the channel for errors
 abbrev pub told : Stop → Ending
 told End = Exits 0 []
-told (Error kind place) = Exits 1 (report kind place)
+told (Error kind position) = Exits 1 (report kind position)
 told IoStop = Exits 3 (codes "io\n")

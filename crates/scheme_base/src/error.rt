@@ -22,7 +22,7 @@ pub enum ErrKind {
     ZeroDivisor,
     /// A variable of a `letrec` is read before it has a value.
     Undefined,
-    /// A part of a literal is written to. No operation of today gives it.
+    /// A part of a literal, or the name of a literal symbol, is written to.
     LiteralWritten,
 }
 

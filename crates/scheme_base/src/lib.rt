@@ -1,15 +1,21 @@
-//! What every crate stands on: lists that contracts see as lists, places in a text, the limits of a
-//! source, the words of a command, the outside of a run, literals, and the primitive operations.
+//! What every crate stands on: lists that contracts see as lists, positions in a text, the limits of a
+//! source, the words of a command, the outside of a run, literals, the texts of atoms, and the primitive
+//! operations.
 //!
-//! `specs/Values` has the values and the objects of a run, `specs/Literals` those of a program's literals,
-//! `specs/Operands` and `specs/Operations` what each operation takes and does, and `specs/Stops` how a run
-//! stops; `operations` has the laws of all operations. The machines of all forms of a program share them.
+//! `specs/Values` has the values and the objects of a run, `specs/Constants` and `specs/Literals` the
+//! constants of a program and the objects that they are, `specs/Operands` and `specs/Operations` what each
+//! operation takes and does, and `specs/Stops` how a run stops. The machines of all forms of a program share
+//! them. `operations` has the laws of all operations; `proofs/OperationChecks` has each operation with each
+//! of its results and errors.
 //!
-//! `specs/Outside` says what passes on a run's channels under an environment, and `specs/Runs` what it
-//! is for two runs to be the same to everybody outside. `proofs/Runs` has the one lemma by which each
-//! pass of the compiler turns a simulation in one direction into both directions.
+//! `specs/Outside` says what passes on a run's channels under an environment, `specs/Runs` what a machine is
+//! and when two runs are the same to everybody outside, and `specs/Heaps` what a run in a heap of some size
+//! is: a machine again, so that one relation compares a program with its image. `runs` and `heaps` have their
+//! laws. `proofs/Simulations` has the lemma by which each pass of the compiler turns a simulation in one
+//! direction into both directions; `proofs/Fixtures` is for computed runs.
 #![tactic(auto)]
 
+mod atom;
 mod env;
 mod error;
 mod law;
@@ -23,9 +29,10 @@ mod pos;
 mod tests;
 mod words;
 
+pub use atom::{write_boolean, write_character, write_integer, write_string};
 pub use env::Env;
 pub use error::{ErrKind, LimitErr};
-pub use law::operations;
+pub use law::{heaps, operations, runs};
 pub use limit::{Limit, LimitKind};
 pub use list::List;
 pub use lit::{Lit, Lits};

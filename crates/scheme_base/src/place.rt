@@ -5,7 +5,7 @@ pub enum Mark {
     Global,
 }
 
-/// A value that is known without a run, so that no place need hold it.
+/// A value that is known without a run, so that no slot need hold it.
 #[derive(Clone, Copy, Debug, PartialEq, Eq)]
 pub enum Stated {
     False,

@@ -1,4 +1,6 @@
-use crate::{ErrKind, List, Op, Words};
+use crate::{
+    ErrKind, List, Op, Pos, Words, write_boolean, write_character, write_integer, write_string,
+};
 use std::test::Fail;
 
 #[test]
@@ -26,5 +28,20 @@ fn operations_have_their_names_and_counts(rt: HostRuntime) -> Result<(), Fail> {
     assert_eq!(rt; Op::ReadChar.operands(), 0);
     assert_eq!(rt; Op::VectorSet.operands(), 3);
     assert_eq!(rt; ErrKind::ZeroDivisor.number(), 7);
+    Ok(())
+}
+
+#[test]
+fn atoms_are_written_and_positions_found(rt: HostRuntime) -> Result<(), Fail> {
+    let mut text = Vec::new(rt.alloc());
+    write_integer(-12, &mut text)?;
+    write_boolean(true, &mut text)?;
+    write_character(b'\n', &mut text)?;
+    write_string(b"a\"", &mut text)?;
+    assert_eq!(rt; text.as_slice(), b"-12#t#\\newline\"a\\\"\"".as_slice());
+
+    let start = Pos { line: 1, col: 1 };
+    let end = start.after(b"a\nbc");
+    assert_eq!(rt; end, Pos { line: 2, col: 3 });
     Ok(())
 }

@@ -1,8 +1,8 @@
 use Rattle.std.proofs.Common.{◌≡◌, ◌<◌, length, take, drop, ap, sym, ◌∙◌, rules, arith, length-drop}
+use Rattle.scheme_base.specs.Positions.{position_after}
 use Rattle.datum_form.specs.Text.{lexed_after, piece}
 use Rattle.datum_form.specs.Text.Piece.{Blank, Found}
 use Rattle.datum_reader.specs.Found.{piece_at, token_at}
-use Rattle.datum_form.specs.Grammar.{place_after}
 use Rattle.datum_reader.specs.Lexing.{token_then}
 use Rattle.datum_reader.proofs.Lexing.{piece_length_some, after_blank, at_token}
 use Rattle.datum_reader.proofs.lexer.next_token.Goals as goal
@@ -30,7 +30,7 @@ loop-spot-preserved c =
     record {
       same =
           ap (λ q. lexed_after 0 q after.rest.now) c.past-spot.ensures.pos
-          ∙ (ap (λ r. lexed_after 0 (place_after p (take n rest)) r) c.past-spot.ensures.rest
+          ∙ (ap (λ r. lexed_after 0 (position_after p (take n rest)) r) c.past-spot.ensures.rest
           ∙ (after_blank p rest n there is ∙ c.loop-spot.invariant.same));
       shorter =
           omega (
