@@ -1,6 +1,8 @@
-mod Examples
+mod BrokenCores
+pub mod CoreChecks
+pub mod LawfulSource
 pub mod OneTree
-pub mod Steps
-pub mod Texts
-pub mod Worlds
-pub mod Writing
+pub mod PieceTexts
+mod RunChecks
+mod ValidTexts
+pub mod WorldsKept

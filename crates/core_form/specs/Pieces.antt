@@ -4,7 +4,8 @@ use Rattle.core_form.specs.declared.program.Var.{Var}
 use Rattle.core_form.specs.declared.program.Program.{Program}
 use Rattle.core_form.specs.declared.piece.Piece.{Piece}
 use Rattle.core_form.specs.declared.piece.Piece.TheVariants.{Expr, Next, List as Listed, Rest, Literal, Tail, More, Close}
-use Rattle.scheme_base.specs.Literals.{Constant, Constants, Laid, LaidAll}
+use Rattle.scheme_base.specs.Constants.{Constant, Constants}
+use Rattle.scheme_base.specs.Literals.{Laid, LaidAll}
 use Rattle.core_form.specs.Trees.{Tree, Trees, Stands, StandAll}
 use Rattle.core_form.specs.Text.{IsText, IsListText, IsRestText, IsLines, IsLiteralText, tail_text, more_text}
 

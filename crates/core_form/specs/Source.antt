@@ -1,11 +1,13 @@
 -- The source machine: what a program does (after the formal semantics of R4RS 7.2).
 --
--- Each variable is a location, or a place at top level. The continuation is a list of frames, the newest
--- first, and the rest of the program is its last. What has an identity, procedures and continuations among
--- it, is an object of a store that only grows at its end.
+-- It is a CEK machine (Felleisen and Friedman 1986) with a store: a state evaluates an expression in a scope,
+-- or gives a value to a continuation. Each local variable is a location of the store, each other a name at
+-- top level. The continuation is a list of frames, the newest first, and the rest of the program is its last.
+-- What has an identity, procedures and continuations among it, is an object of a store that only grows at
+-- its end.
 --
 -- Operands are evaluated from left to right, after the operator (R4RS 4.1.3 leaves this open). A lambda
--- expression that is called directly makes no object: its parameters are bound in place.
+-- expression that is called directly makes no object: its parameters are bound where the call stands.
 use Rattle.std.specs.Prelude.{ℕ, zero, suc, nat_eq, List, [], ◌∷◌, ◌++◌, length, map, take, drop, slice_get, slice_set, Option, Some, None, is_some, Bool, true, false}
 use Rattle.std.specs.Map.{lookup}
 use Rattle.scheme_base.specs.declared.env.Env.{Env}
@@ -14,9 +16,9 @@ use Rattle.scheme_base.specs.declared.op.Op.{Op}
 use Rattle.scheme_base.specs.declared.lit.Lit.{Lit}
 use Rattle.scheme_base.specs.declared.error.ErrKind.{ErrKind}
 use Rattle.scheme_base.specs.declared.error.ErrKind.TheVariants as kind
-use Rattle.scheme_base.specs.Outside.{Event, Wrote, Ending}
+use Rattle.scheme_base.specs.Outside.{Event, Ending}
 use Rattle.scheme_base.specs.Runs.{Machine}
-use Rattle.scheme_base.specs.Values.{Value, False, Unspecified, Undefined, Object, Thing, Datum, Procedure, ByRun}
+use Rattle.scheme_base.specs.Values.{Value, Unspecified, Undefined, Object, Thing, Holding, Procedure, ByRun, chosen}
 use Rattle.scheme_base.specs.Literals.{literal, literal_objects}
 use Rattle.scheme_base.specs.Operations.{Channels, no_channels, Outcome, Answers, Makes, Changes, Passes, Applies, Captures, Fails, Breaks, operate, sight, plain_store, entries_after, list_value, list_contents, takes, item_or}
 use Rattle.scheme_base.specs.Stops.{Stop, End, Error, IoStop, told}
@@ -44,12 +46,12 @@ pub data Frame (V : Type 0) : Type 0 where
   -- the forms after this one, to the end of the program
   Forms : Trees V → Frame V
   -- it is the operator, before these operands
-  Operator : (operands : Trees V) → Scope V → (place : Pos) → Frame V
+  Operator : (operands : Trees V) → Scope V → (pos : Pos) → Frame V
   -- it is an operand after those that have values, and before those that are left
-  Operand : Goal V → (valued : List Value) → (left : Trees V) → Scope V → (place : Pos) → Frame V
+  Operand : Goal V → (valued : List Value) → (left : Trees V) → Scope V → (pos : Pos) → Frame V
   -- it is a test
   Choose : (yes no : Tree V) → Scope V → Frame V
-  Assign : V → Scope V → (place : Pos) → Frame V
+  Assign : V → Scope V → (pos : Pos) → Frame V
   Bind : V → Frame V
   -- it is an item of a sequence before these
   Rest : Trees V → Scope V → Frame V
@@ -61,7 +63,7 @@ pub data Proc (V : Type 0) : Type 0 where
 
 pub record World (V : Type 0) : Type 0 where
   -- the values of the locations
-  pub places : List Value
+  pub locations : List Value
   pub things : List (Thing (Proc V))
   -- the top-level variables that are defined, with their values; the newest entry of a name counts
   pub tops : List (V × Value)
@@ -73,33 +75,33 @@ pub data State (V : Type 0) : Type 0 where
   Stopped : Stop → World V → State V
 
 abbrev pub fails : {V : Type 0} → ErrKind → Pos → World V → State V
-fails k place w = Stopped (Error k place) w
+fails k pos w = Stopped (Error k pos) w
 
 -- Variables
 
 abbrev pub read_local : {V : Type 0} → Value → Pos → List (Frame V) → World V → State V
-read_local Undefined place fs w = fails kind.Undefined place w
-read_local v place fs w = Gives v fs w
+read_local Undefined pos fs w = fails kind.Undefined pos w
+read_local v pos fs w = Gives v fs w
 
 abbrev pub read_top : {V : Type 0} → Option Value → Pos → List (Frame V) → World V → State V
-read_top None place fs w = fails kind.Unbound place w
-read_top (Some v) place fs w = Gives v fs w
+read_top None pos fs w = fails kind.Unbound pos w
+read_top (Some v) pos fs w = Gives v fs w
 
 -- a variable that is seen at this location, or else is one at top level
 abbrev pub refer : {V : Type 0} → Source V → Option ℕ → V → Pos → List (Frame V) → World V → State V
-refer p (Some n) x place fs w = read_local (item_or Undefined (slice_get w.places n)) place fs w
-refer p None x place fs w = read_top (lookup (p.same x) w.tops) place fs w
+refer p (Some n) x pos fs w = read_local (item_or Undefined (slice_get w.locations n)) pos fs w
+refer p None x pos fs w = read_top (lookup (p.same x) w.tops) pos fs w
 
 abbrev pub with_top : {V : Type 0} → V → Value → World V → World V
 with_top x v w = record w { tops = (x, v) ∷ w.tops }
 
 abbrev pub assign_top : {V : Type 0} → Option Value → V → Value → Pos → List (Frame V) → World V → State V
-assign_top None x v place fs w = fails kind.Unbound place w
-assign_top (Some old) x v place fs w = Gives Unspecified fs (with_top x v w)
+assign_top None x v pos fs w = fails kind.Unbound pos w
+assign_top (Some old) x v pos fs w = Gives Unspecified fs (with_top x v w)
 
 abbrev pub assign : {V : Type 0} → Source V → Option ℕ → V → Value → Pos → List (Frame V) → World V → State V
-assign p (Some n) x v place fs w = Gives Unspecified fs (record w { places = slice_set w.places n v })
-assign p None x v place fs w = assign_top (lookup (p.same x) w.tops) x v place fs w
+assign p (Some n) x v pos fs w = Gives Unspecified fs (record w { locations = slice_set w.locations n v })
+assign p None x v pos fs w = assign_top (lookup (p.same x) w.tops) x v pos fs w
 
 -- variables that have the locations from n on
 abbrev pub scope_with : {V : Type 0} → List V → ℕ → Scope V → Scope V
@@ -116,10 +118,10 @@ with_proc f w = record w { things = w.things ++ Procedure f ∷ [] }
 
 abbrev pub with_list : {V : Type 0} → List Value → World V → World V
 with_list vs w =
-    record w { things = w.things ++ map (λ c. Datum ByRun c) (list_contents (length w.things) vs) }
+    record w { things = w.things ++ map (λ c. Holding ByRun c) (list_contents (length w.things) vs) }
 
-abbrev pub with_places : {V : Type 0} → List Value → World V → World V
-with_places vs w = record w { places = w.places ++ vs }
+abbrev pub with_locations : {V : Type 0} → List Value → World V → World V
+with_locations vs w = record w { locations = w.locations ++ vs }
 
 -- Calls
 
@@ -127,33 +129,33 @@ with_places vs w = record w { places = w.places ++ vs }
 -- past them
 abbrev pub enter : {V : Type 0} → (params : List V) → (rest : Option V) → (body : Tree V) → Scope V
     → List Value → List (Frame V) → World V → State V
-enter xs None body ρ vs fs w = Evaluates body (scope_with xs (length w.places) ρ) fs (with_places vs w)
+enter xs None body ρ vs fs w = Evaluates body (scope_with xs (length w.locations) ρ) fs (with_locations vs w)
 enter xs (Some x) body ρ vs fs w =
     let past = drop (length xs) vs in
-    Evaluates body (scope_with (xs ++ x ∷ []) (length w.places) ρ) fs
-    (with_places (take (length xs) vs ++ list_value (length w.things) past ∷ []) (with_list past w))
+    Evaluates body (scope_with (xs ++ x ∷ []) (length w.locations) ρ) fs
+    (with_locations (take (length xs) vs ++ list_value (length w.things) past ∷ []) (with_list past w))
 
 abbrev pub entered : {V : Type 0} → (taken : Bool) → Pos → World V → State V → State V
-entered true place w s = s
-entered false place w s = fails kind.Count place w
+entered true pos w s = s
+entered false pos w s = fails kind.Count pos w
 
 -- a continuation takes one operand, and goes on as the run would have gone on from where it was made
 abbrev pub resume : {V : Type 0} → List (Frame V) → List Value → Pos → World V → State V
-resume fs (v ∷ []) place w = Gives v fs w
-resume fs vs place w = fails kind.Count place w
+resume fs (v ∷ []) pos w = Gives v fs w
+resume fs vs pos w = fails kind.Count pos w
 
 abbrev pub call_of : {V : Type 0} → Option (Thing (Proc V)) → List Value → Pos → List (Frame V) → World V → State V
-call_of (Some (Procedure (Closure xs rest body ρ))) vs place fs w =
-    entered (takes (length xs) (is_some rest) (length vs)) place w (enter xs rest body ρ vs fs w)
-call_of (Some (Procedure (Continuation gs))) vs place fs w = resume gs vs place w
-call_of thing vs place fs w = fails kind.NotProcedure place w
+call_of (Some (Procedure (Closure xs rest body ρ))) vs pos fs w =
+    entered (takes (length xs) (is_some rest) (length vs)) pos w (enter xs rest body ρ vs fs w)
+call_of (Some (Procedure (Continuation gs))) vs pos fs w = resume gs vs pos w
+call_of thing vs pos fs w = fails kind.NotProcedure pos w
 
 abbrev pub thing_at : {V : Type 0} → World V → Value → Option (Thing (Proc V))
 thing_at w (Object n) = slice_get w.things n
 thing_at w v = None
 
 abbrev pub call : {V : Type 0} → Value → List Value → Pos → List (Frame V) → World V → State V
-call f vs place fs w = call_of (thing_at w f) vs place fs w
+call f vs pos fs w = call_of (thing_at w f) vs pos fs w
 
 -- Operations
 
@@ -161,32 +163,32 @@ abbrev pub with_outcome : {V : Type 0} → Outcome → World V → World V
 with_outcome outcome w = record w { things = entries_after plain_store w.things outcome }
 
 abbrev pub carry : {V : Type 0} → Outcome → Pos → List (Frame V) → World V → State V
-carry (Answers v) place fs w = Gives v fs w
-carry (Makes c) place fs w = Gives (next w) fs (with_outcome (Makes c) w)
-carry (Changes n c) place fs w = Gives Unspecified fs (with_outcome (Changes n c) w)
-carry (Passes v channels) place fs w = Gives v fs (record w { channels = channels })
-carry (Applies f vs) place fs w = call f vs place fs w
-carry (Captures f) place fs w = call f (next w ∷ []) place fs (with_proc (Continuation fs) w)
-carry (Fails k) place fs w = fails k place w
-carry (Breaks channels) place fs w = Stopped IoStop (record w { channels = channels })
+carry (Answers v) pos fs w = Gives v fs w
+carry (Makes c) pos fs w = Gives (next w) fs (with_outcome (Makes c) w)
+carry (Changes n c) pos fs w = Gives Unspecified fs (with_outcome (Changes n c) w)
+carry (Passes v channels) pos fs w = Gives v fs (record w { channels = channels })
+carry (Applies f vs) pos fs w = call f vs pos fs w
+carry (Captures f) pos fs w = call f (next w ∷ []) pos fs (with_proc (Continuation fs) w)
+carry (Fails k) pos fs w = fails k pos w
+carry (Breaks channels) pos fs w = Stopped IoStop (record w { channels = channels })
 
 abbrev pub perform : {V : Type 0} → Env → Op → List Value → Pos → List (Frame V) → World V → State V
-perform env o vs place fs w = carry (operate env (sight plain_store w.things) w.channels o vs) place fs w
+perform env o vs pos fs w = carry (operate env (sight plain_store w.things) w.channels o vs) pos fs w
 
 -- operands that all have values
 abbrev pub reach : {V : Type 0} → Env → Goal V → List Value → Scope V → Pos → List (Frame V) → World V → State V
-reach env (Calls f) vs ρ place fs w = call f vs place fs w
-reach env (Binds xs body) vs ρ place fs w = enter xs None body ρ vs fs w
-reach env (Does o) vs ρ place fs w = perform env o vs place fs w
+reach env (Calls f) vs ρ pos fs w = call f vs pos fs w
+reach env (Binds xs body) vs ρ pos fs w = enter xs None body ρ vs fs w
+reach env (Does o) vs ρ pos fs w = perform env o vs pos fs w
 
 abbrev pub operands : {V : Type 0} → Env → Goal V → (valued : List Value) → (left : Trees V) → Scope V → Pos
     → List (Frame V) → World V → State V
-operands env goal vs none ρ place fs w = reach env goal vs ρ place fs w
-operands env goal vs (item e es) ρ place fs w = Evaluates e ρ (Operand goal vs es ρ place ∷ fs) w
+operands env goal vs none ρ pos fs w = reach env goal vs ρ pos fs w
+operands env goal vs (item e es) ρ pos fs w = Evaluates e ρ (Operand goal vs es ρ pos ∷ fs) w
 
 -- Expressions
 
--- the last item of a sequence is in its place
+-- the last item of a sequence is in its pos
 abbrev pub sequence : {V : Type 0} → Trees V → Scope V → List (Frame V) → World V → State V
 sequence none ρ fs w = Gives Unspecified fs w
 sequence (item e none) ρ fs w = Evaluates e ρ fs w
@@ -208,40 +210,35 @@ objects_from n (suc many) = Object n ∷ objects_from (suc n) many
 
 abbrev pub fix : {V : Type 0} → List V → Trees V → Tree V → Scope V → List (Frame V) → World V → State V
 fix xs ls body ρ fs w =
-    let inner = scope_with xs (length w.places) ρ in
+    let inner = scope_with xs (length w.locations) ρ in
     Evaluates body inner fs
-    (with_places (objects_from (length w.things) (count ls)) (record w { things = w.things ++ closures inner ls }))
+    (with_locations (objects_from (length w.things) (count ls)) (record w { things = w.things ++ closures inner ls }))
 
 abbrev pub direct : {V : Type 0} → (exact : Bool) → List V → Tree V → Tree V → Trees V → Env → Scope V → Pos
     → List (Frame V) → World V → State V
-direct true xs body f es env ρ place fs w = operands env (Binds xs body) [] es ρ place fs w
-direct false xs body f es env ρ place fs w = Evaluates f ρ (Operator es ρ place ∷ fs) w
+direct true xs body f es env ρ pos fs w = operands env (Binds xs body) [] es ρ pos fs w
+direct false xs body f es env ρ pos fs w = Evaluates f ρ (Operator es ρ pos ∷ fs) w
 
 -- a call of an expression; a lambda expression without a rest parameter is called directly with its number
 -- of operands
 abbrev pub apply : {V : Type 0} → Tree V → Trees V → Env → Scope V → Pos → List (Frame V) → World V → State V
-apply (Lambda p xs None body) es env ρ place fs w =
-    direct (nat_eq (length xs) (count es)) xs body (Lambda p xs None body) es env ρ place fs w
-apply f es env ρ place fs w = Evaluates f ρ (Operator es ρ place ∷ fs) w
+apply (Lambda p xs None body) es env ρ pos fs w =
+    direct (nat_eq (length xs) (count es)) xs body (Lambda p xs None body) es env ρ pos fs w
+apply f es env ρ pos fs w = Evaluates f ρ (Operator es ρ pos ∷ fs) w
 
 abbrev pub evaluate : {V : Type 0} → Source V → Env → Tree V → Scope V → List (Frame V) → World V → State V
-evaluate p env (Const place lit) ρ fs w = Gives (literal p.lits lit) fs w
-evaluate p env (Ref place x) ρ fs w = refer p (lookup (p.same x) ρ) x place fs w
-evaluate p env (Lambda place xs rest body) ρ fs w = Gives (next w) fs (with_proc (Closure xs rest body ρ) w)
-evaluate p env (If place t y n) ρ fs w = Evaluates t ρ (Choose y n ρ ∷ fs) w
-evaluate p env (Set place x e) ρ fs w = Evaluates e ρ (Assign x ρ place ∷ fs) w
-evaluate p env (Call place f es) ρ fs w = apply f es env ρ place fs w
-evaluate p env (Prim place o es) ρ fs w = operands env (Does o) [] es ρ place fs w
-evaluate p env (Seq place es) ρ fs w = sequence es ρ fs w
-evaluate p env (Fix place xs ls body) ρ fs w = fix xs ls body ρ fs w
-evaluate p env (Define place x e) ρ fs w = Evaluates e ρ (Bind x ∷ fs) w
+evaluate p env (Const pos lit) ρ fs w = Gives (literal p.lits lit) fs w
+evaluate p env (Ref pos x) ρ fs w = refer p (lookup (p.same x) ρ) x pos fs w
+evaluate p env (Lambda pos xs rest body) ρ fs w = Gives (next w) fs (with_proc (Closure xs rest body ρ) w)
+evaluate p env (If pos t y n) ρ fs w = Evaluates t ρ (Choose y n ρ ∷ fs) w
+evaluate p env (Set pos x e) ρ fs w = Evaluates e ρ (Assign x ρ pos ∷ fs) w
+evaluate p env (Call pos f es) ρ fs w = apply f es env ρ pos fs w
+evaluate p env (Prim pos o es) ρ fs w = operands env (Does o) [] es ρ pos fs w
+evaluate p env (Seq pos es) ρ fs w = sequence es ρ fs w
+evaluate p env (Fix pos xs ls body) ρ fs w = fix xs ls body ρ fs w
+evaluate p env (Define pos x e) ρ fs w = Evaluates e ρ (Bind x ∷ fs) w
 
 -- Values
-
--- only #f is false (R4RS 6.1)
-abbrev pub chosen : {V : Type 0} → Value → (yes no : Tree V) → Tree V
-chosen False y n = n
-chosen v y n = y
 
 abbrev pub next_form : {V : Type 0} → Trees V → List (Frame V) → World V → State V
 next_form none fs w = Stopped End w
@@ -250,10 +247,10 @@ next_form (item e es) fs w = Evaluates e [] (Forms es ∷ fs) w
 abbrev pub give : {V : Type 0} → Source V → Env → Value → List (Frame V) → World V → State V
 give p env v [] w = Stopped End w
 give p env v (Forms es ∷ fs) w = next_form es fs w
-give p env v (Operator es ρ place ∷ fs) w = operands env (Calls v) [] es ρ place fs w
-give p env v (Operand goal vs es ρ place ∷ fs) w = operands env goal (vs ++ v ∷ []) es ρ place fs w
+give p env v (Operator es ρ pos ∷ fs) w = operands env (Calls v) [] es ρ pos fs w
+give p env v (Operand goal vs es ρ pos ∷ fs) w = operands env goal (vs ++ v ∷ []) es ρ pos fs w
 give p env v (Choose y n ρ ∷ fs) w = Evaluates (chosen v y n) ρ fs w
-give p env v (Assign x ρ place ∷ fs) w = assign p (lookup (p.same x) ρ) x v place fs w
+give p env v (Assign x ρ pos ∷ fs) w = assign p (lookup (p.same x) ρ) x v pos fs w
 give p env v (Bind x ∷ fs) w = Gives Unspecified fs (with_top x v w)
 give p env v (Rest es ρ ∷ fs) w = sequence es ρ fs w
 
@@ -283,10 +280,4 @@ machine p env = record { step = step p env; trace = trace_of; ending = ending_of
 abbrev pub start : {V : Type 0} → Source V → Env → State V
 start p env =
     Gives Unspecified (Forms p.forms ∷ [])
-    (record { places = []; things = literal_objects p.lits; tops = []; channels = no_channels env })
-
--- what was written: the bytes of the writes that succeeded, the oldest first
-abbrev pub output : List Event → List ℕ
-output [] = []
-output (Wrote byte ∷ es) = output es ++ byte ∷ []
-output (e ∷ es) = output es
+    (record { locations = []; things = literal_objects p.lits; tops = []; channels = no_channels env })

@@ -3,41 +3,28 @@
 -- A form is a line. An expression is in parentheses its variant's name in small letters and its parts, each
 -- after one space; several parts of one kind stand in parentheses of their own. A literal is written as
 -- R4RS writes data (6.10.3, `write`), always in full and on one line. Positions are not written.
-use Rattle.std.specs.Prelude.{ℕ, ◌≡◌, List, [], ◌∷◌, ◌++◌, Option, Some, None, Bool, true, false, if◌then◌else◌, nat_eq, ◌||◌, codes}
+use Rattle.std.specs.Prelude.{ℕ, ◌≡◌, List, [], ◌∷◌, ◌++◌, Option, Some, None, if◌then◌else◌, codes}
 use Rattle.std.specs.Fmt.{signed_decimal}
 use Rattle.scheme_base.specs.declared.lit.Lit.{Lit}
+use Rattle.scheme_base.specs.AtomText.{boolean_text, character_text, string_text}
 use Rattle.scheme_base.specs.Operands.{name_of}
-use Rattle.scheme_base.specs.Literals.{Constant, Number, Truth, Letter, Empty, Unnamed, Hole, Name, Words, Couple, Row, Constants, none as no_constant, item as constant, Laid}
+use Rattle.scheme_base.specs.Constants.{Constant, Integer, Boolean, Character, Nil, Unspecified, Undefined, Symbol, String, Pair, Vector, Constants, none as no_constant, item as constant}
+use Rattle.scheme_base.specs.Literals.{Laid}
 use Rattle.core_form.specs.declared.program.Var.{Var}
 use Rattle.core_form.specs.declared.program.Program.{Program}
 use Rattle.core_form.specs.Trees.{Tree, Const, Ref, Lambda, If, Set, Call, Prim, Seq, Fix, Define, Trees, none, item, Holds}
 
 -- Constants
 
-abbrev pub truth_text : Bool → List ℕ
-truth_text true = codes "#t"
-truth_text false = codes "#f"
-
-abbrev pub letter_text : ℕ → List ℕ
-letter_text byte =
-    if nat_eq byte 32 then codes "#\\space"
-    else (if nat_eq byte 10 then codes "#\\newline" else codes "#\\" ++ byte ∷ [])
-
--- the characters of a string, with a backslash before a quote and before a backslash, and the last quote
-abbrev pub characters : List ℕ → List ℕ
-characters [] = codes "\""
-characters (b ∷ bytes) =
-    if nat_eq b 34 || nat_eq b 92 then 92 ∷ b ∷ characters bytes else b ∷ characters bytes
-
 abbrev pub atom_text : Constant → List ℕ
-atom_text (Number z) = signed_decimal z
-atom_text (Truth b) = truth_text b
-atom_text (Letter byte) = letter_text byte
-atom_text Empty = codes "()"
-atom_text Unnamed = codes "#<unspecified>"
-atom_text Hole = codes "#<undefined>"
-atom_text (Name name) = name
-atom_text (Words bytes) = 34 ∷ characters bytes
+atom_text (Integer z) = signed_decimal z
+atom_text (Boolean b) = boolean_text b
+atom_text (Character byte) = character_text byte
+atom_text Nil = codes "()"
+atom_text Unspecified = codes "#<unspecified>"
+atom_text Undefined = codes "#<undefined>"
+atom_text (Symbol name) = name
+atom_text (String bytes) = string_text bytes
 atom_text c = []
 
 abbrev pub dotted : List ℕ → List ℕ
@@ -45,15 +32,15 @@ dotted text = codes " . " ++ (text ++ codes ")")
 
 abbrev mutual
   pub constant_text : Constant → List ℕ
-  constant_text (Couple a d) = 40 ∷ constant_text a ++ tail_text d
-  constant_text (Row cs) = codes "#(" ++ items_text cs
+  constant_text (Pair a d) = 40 ∷ constant_text a ++ tail_text d
+  constant_text (Vector cs) = codes "#(" ++ items_text cs
   constant_text c = atom_text c
 
   -- what follows an item of a list, with the list's end
   pub tail_text : Constant → List ℕ
-  tail_text Empty = codes ")"
-  tail_text (Couple a d) = 32 ∷ constant_text a ++ tail_text d
-  tail_text (Row cs) = dotted (codes "#(" ++ items_text cs)
+  tail_text Nil = codes ")"
+  tail_text (Pair a d) = 32 ∷ constant_text a ++ tail_text d
+  tail_text (Vector cs) = dotted (codes "#(" ++ items_text cs)
   tail_text c = dotted (atom_text c)
 
   -- the items of a vector, with its end

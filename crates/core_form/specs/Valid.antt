@@ -3,8 +3,10 @@ use Rattle.std.specs.Prelude.{ℕ, ◌≡◌, ◌&&◌, ◌||◌, List, [], ◌�
 use Rattle.std.specs.List.{list_any, IsDistinct}
 use Rattle.scheme_base.specs.declared.lit.Lit.{Lit}
 use Rattle.scheme_base.specs.declared.lit.Lit.TheVariants as lit
-use Rattle.scheme_base.specs.Literals.{Constant, Hole, Laid, IsPart}
+use Rattle.scheme_base.specs.Constants.{Constant, IsConstant}
+use Rattle.scheme_base.specs.Literals.{Laid}
 use Rattle.scheme_base.specs.Operands.{operands_of}
+use Rattle.scheme_base.specs.Positions.{IsPosition}
 use Rattle.core_form.specs.declared.program.Var.{Var}
 use Rattle.core_form.specs.declared.program.VarRef.{VarRef}
 use Rattle.core_form.specs.declared.program.VarRef.TheVariants.{Local, Top}
@@ -12,17 +14,13 @@ use Rattle.core_form.specs.declared.program.Program.{Program}
 use Rattle.core_form.specs.Trees.{Tree, Const, Ref, Lambda, If, Set, Call, Prim, Seq, Fix, Define, Trees, none, item, count, Holds}
 use Rattle.core_form.specs.Variables.{same_var, same_ref}
 
--- Literals: each constant of the program has its own, in the order of the program's text
-
--- a constant whose numbers are in range; the undefined value stands alone
-abbrev pub IsWhole : Constant → Type 0
-IsWhole Hole = Unit {0}
-IsWhole c = IsPart c
+-- Literals: each constant of the program has its own, in the order of the program's text. So a literal is a
+-- part of one other at one place, or an expression names it.
 
 abbrev mutual
   -- the constants of an expression are the literals from i up to j, j excluded
   pub Constants : {V : Type 0} → List Lit → ℕ → Tree V → ℕ → Type 0
-  Constants lits i (Const p l) j = (l ≡ i) × (c : Constant) × IsWhole c × Laid lits i c j
+  Constants lits i (Const p l) j = (l ≡ i) × (c : Constant) × IsConstant c × Laid lits i c j
   Constants lits i (Ref p x) j = j ≡ i
   Constants lits i (Lambda p xs rest body) j = Constants lits i body j
   Constants lits i (If p test this that) j =
@@ -83,6 +81,10 @@ abbrev pub AreLambdas : {V : Type 0} → Trees V → Type 0
 AreLambdas none = Unit {0}
 AreLambdas (item e es) = IsLambda e × AreLambdas es
 
+abbrev pub HasItem : {V : Type 0} → Trees V → Type 0
+HasItem none = ⊥
+HasItem (item e es) = Unit {0}
+
 -- neither these expressions nor the body assign one of the variables
 abbrev pub NoneAssigned : {V : Type 0} → (V → V → Bool) → List V → Trees V → Tree V → Type 0
 NoneAssigned same [] ls body = Unit {0}
@@ -92,8 +94,8 @@ NoneAssigned same (x ∷ xs) ls body =
 abbrev mutual
   -- The undefined value is only an operand of a direct call, for a parameter that the body assigns. A
   -- definition is a form of the program. An operation has its number of operands, and the names that one
-  -- lambda expression or one `Fix` binds differ. A `Fix` binds as many lambda expressions as it has
-  -- variables, and nothing assigns these.
+  -- lambda expression or one `Fix` binds differ. A sequence has an item. A `Fix` binds as many lambda
+  -- expressions as it has variables, and nothing assigns these.
   pub IsFine : {V : Type 0} → List Lit → (V → V → Bool) → Tree V → Type 0
   IsFine lits same (Const p l) = is_undefined (slice_get lits l) ≡ false
   IsFine lits same (Ref p x) = Unit {0}
@@ -105,7 +107,7 @@ abbrev mutual
       × FineOperands lits same (if nat_eq (length xs) (count es) then xs else []) body es
   IsFine lits same (Call p f es) = IsFine lits same f × AllFine lits same es
   IsFine lits same (Prim p o es) = (count es ≡ length (operands_of o)) × AllFine lits same es
-  IsFine lits same (Seq p es) = AllFine lits same es
+  IsFine lits same (Seq p es) = HasItem es × AllFine lits same es
   IsFine lits same (Fix p xs ls body) =
       IsDistinct same xs × (count ls ≡ length xs) × AreLambdas ls × NoneAssigned same xs ls body
       × AllFine lits same ls × IsFine lits same body
@@ -130,16 +132,37 @@ abbrev pub FineForms : {V : Type 0} → List Lit → (V → V → Bool) → Tree
 FineForms lits same none = Unit {0}
 FineForms lits same (item e es) = FineForm lits same e × FineForms lits same es
 
+-- Positions
+
+abbrev mutual
+  -- the positions of an expression and of its parts are numbers of 32 bits
+  pub IsPlaced : {V : Type 0} → Tree V → Type 0
+  IsPlaced (Const p l) = IsPosition p
+  IsPlaced (Ref p x) = IsPosition p
+  IsPlaced (Lambda p xs rest body) = IsPosition p × IsPlaced body
+  IsPlaced (If p test this that) = IsPosition p × IsPlaced test × IsPlaced this × IsPlaced that
+  IsPlaced (Set p x e) = IsPosition p × IsPlaced e
+  IsPlaced (Call p f es) = IsPosition p × IsPlaced f × AllPlaced es
+  IsPlaced (Prim p o es) = IsPosition p × AllPlaced es
+  IsPlaced (Seq p es) = IsPosition p × AllPlaced es
+  IsPlaced (Fix p xs ls body) = IsPosition p × AllPlaced ls × IsPlaced body
+  IsPlaced (Define p x e) = IsPosition p × IsPlaced e
+
+  pub AllPlaced : {V : Type 0} → Trees V → Type 0
+  AllPlaced none = Unit {0}
+  AllPlaced (item e es) = IsPlaced e × AllPlaced es
+
 -- a program whose numbers name what is there, with nothing in itself, whose forms are these
 pub record IsValid {V : Type 0} (same : V → V → Bool) (program : Program V) (forms : Trees V) : Type 0 where
   pub holds : Holds program forms
   pub constants : AllConstants program.lits 0 forms (length program.lits)
   pub fine : FineForms program.lits same forms
+  pub placed : AllPlaced forms
 
 abbrev pub IsCore : Program Var → Trees Var → Type 0
 IsCore core forms = IsValid same_var core forms
 
--- Renamed cores: each local variable is bound at one place, and stands in its scope
+-- Renamed cores: each local variable is bound once, and stands in its scope
 
 abbrev mutual
   -- the variables that an expression binds, in order

@@ -4,7 +4,7 @@ ghost use Rattle.core_form.specs.Pieces.{PieceText, Writes};
 
 use crate::piece::Piece;
 use crate::vars::{write_rest, write_var, write_vars};
-use crate::{Core, Form};
+use crate::{Core, What};
 use std::alloc::AllocError;
 
 /// Writes how an expression begins, and leaves its parts.
@@ -18,23 +18,23 @@ pub(crate) fn write_expr<'a>(
     ensures { OnOk result (Writes core.now (Expr expr) stack.old.items stack.new.items text.old.items text.new.items) }
 {
     match &core.exprs.as_slice()[expr as usize].what {
-        Form::Const(lit) => {
+        What::Const(lit) => {
             text.extend_from_slice(b"(const ")?;
             stack.extend_from_slice(&[Piece::Close, Piece::Literal(*lit)])?;
         }
-        Form::Ref(var) => {
+        What::Ref(var) => {
             text.extend_from_slice(b"(ref ")?;
             write_var(var, text)?;
             text.push(b')')?;
         }
-        Form::Lambda { params, rest, body } => {
+        What::Lambda { params, rest, body } => {
             text.extend_from_slice(b"(lambda ")?;
             write_vars(params.as_slice(), text)?;
             text.push(b' ')?;
             write_rest(rest, text)?;
             stack.extend_from_slice(&[Piece::Close, Piece::Next(*body)])?;
         }
-        Form::If { test, yes, no } => {
+        What::If { test, yes, no } => {
             text.extend_from_slice(b"(if")?;
             stack.extend_from_slice(&[
                 Piece::Close,
@@ -43,12 +43,12 @@ pub(crate) fn write_expr<'a>(
                 Piece::Next(*test),
             ])?;
         }
-        Form::Set { var, value } => {
+        What::Set { var, value } => {
             text.extend_from_slice(b"(set ")?;
             write_var(var, text)?;
             stack.extend_from_slice(&[Piece::Close, Piece::Next(*value)])?;
         }
-        Form::Call { operator, operands } => {
+        What::Call { operator, operands } => {
             text.extend_from_slice(b"(call")?;
             stack.extend_from_slice(&[
                 Piece::Close,
@@ -56,16 +56,16 @@ pub(crate) fn write_expr<'a>(
                 Piece::Next(*operator),
             ])?;
         }
-        Form::Prim { op, operands } => {
+        What::Prim { op, operands } => {
             text.extend_from_slice(b"(prim ")?;
             text.extend_from_slice(op.name().as_bytes())?;
             stack.extend_from_slice(&[Piece::Close, Piece::List(operands.as_slice())])?;
         }
-        Form::Seq { items } => {
+        What::Seq { items } => {
             text.extend_from_slice(b"(seq")?;
             stack.extend_from_slice(&[Piece::Close, Piece::List(items.as_slice())])?;
         }
-        Form::Fix {
+        What::Fix {
             vars,
             lambdas,
             body,
@@ -78,7 +78,7 @@ pub(crate) fn write_expr<'a>(
                 Piece::List(lambdas.as_slice()),
             ])?;
         }
-        Form::Define { var, value } => {
+        What::Define { var, value } => {
             text.extend_from_slice(b"(define ")?;
             write_var(var, text)?;
             stack.extend_from_slice(&[Piece::Close, Piece::Next(*value)])?;

@@ -1,13 +1,10 @@
-ghost use Rattle.std.specs.Prelude.{◌≡◌, ◌++◌, ◌∷◌, [], List, ℕ, OnOk};
-ghost use Rattle.std.specs.Fmt.{signed_decimal};
+ghost use Rattle.std.specs.Prelude.{List, ℕ, OnOk};
 ghost use Rattle.core_form.specs.declared.piece.Piece.TheVariants.{Literal, Tail, More};
-ghost use Rattle.core_form.specs.Text.{characters, letter_text, truth_text};
 ghost use Rattle.core_form.specs.Pieces.{PieceText, Writes};
 
 use crate::Core;
 use crate::piece::Piece;
-use itoa::Buffer;
-use scheme_base::Lit;
+use scheme_base::{Lit, write_boolean, write_character, write_integer, write_string};
 use std::alloc::AllocError;
 
 /// Writes how a literal begins, and leaves its parts.
@@ -23,7 +20,7 @@ pub(crate) fn write_literal<'a>(
     match &core.lits.as_slice()[lit as usize] {
         Lit::Integer(value) => write_integer(*value, text)?,
         Lit::Boolean(value) => write_boolean(*value, text)?,
-        Lit::Char(byte) => write_letter(*byte, text)?,
+        Lit::Char(byte) => write_character(*byte, text)?,
         Lit::Nil => text.extend_from_slice(b"()")?,
         Lit::Unspecified => text.extend_from_slice(b"#<unspecified>")?,
         Lit::Undefined => text.extend_from_slice(b"#<undefined>")?,
@@ -86,55 +83,5 @@ pub(crate) fn write_more<'a>(
             stack.extend_from_slice(&[Piece::More(others), Piece::Literal(*first)])?;
         }
     }
-    Ok(())
-}
-
-/// Writes a boolean.
-fn write_boolean(value: bool, text: &mut Vec<u8>) -> Result<(), AllocError>
-    ensures { OnOk result (text.new.items ≡ text.old.items ++ truth_text value) }
-{
-    if value {
-        text.extend_from_slice(b"#t")?;
-    } else {
-        text.extend_from_slice(b"#f")?;
-    }
-    Ok(())
-}
-
-/// Writes a whole number in decimal.
-fn write_integer(value: i64, text: &mut Vec<u8>) -> Result<(), AllocError>
-    ensures { OnOk result (text.new.items ≡ text.old.items ++ signed_decimal value) }
-{
-    let mut buffer = Buffer::new();
-    text.extend_from_slice(buffer.format(value).as_bytes())?;
-    Ok(())
-}
-
-/// Writes a character.
-fn write_letter(byte: u8, text: &mut Vec<u8>) -> Result<(), AllocError>
-    ensures { OnOk result (text.new.items ≡ text.old.items ++ letter_text byte) }
-{
-    match byte {
-        b' ' => text.extend_from_slice(b"#\\space")?,
-        b'\n' => text.extend_from_slice(b"#\\newline")?,
-        _ => text.extend_from_slice(&[b'#', b'\\', byte])?,
-    }
-    Ok(())
-}
-
-/// Writes a string with its quotes and escapes.
-fn write_string(bytes: &[u8], text: &mut Vec<u8>) -> Result<(), AllocError>
-    ensures { OnOk result (text.new.items ≡ text.old.items ++ 34 ∷ characters bytes.now) }
-{
-    text.push(b'"')?;
-    let mut rest = bytes;
-    while let Some((byte, others)) = rest.split_first() {
-        if *byte == b'"' || *byte == b'\\' {
-            text.push(b'\\')?;
-        }
-        text.push(*byte)?;
-        rest = others;
-    }
-    text.push(b'"')?;
     Ok(())
 }

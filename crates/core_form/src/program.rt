@@ -17,7 +17,7 @@ pub enum VarRef {
 /// What an expression is, over variables V. Parts are numbers of expressions, and a constant is the number
 /// of a literal, both counted from 0.
 #[derive(Debug, Drop)]
-pub enum Form<V> {
+pub enum What<V> {
     /// A literal (R4RS 4.1.2).
     Const(u32),
     /// A variable (R4RS 4.1.1).
@@ -66,10 +66,10 @@ pub enum Form<V> {
     },
 }
 
-/// An expression, with the place that its errors name.
+/// An expression, with the position that its errors name.
 #[derive(Debug, Drop)]
 pub struct Node<V> {
-    pub what: Form<V>,
+    pub what: What<V>,
     pub pos: Pos,
 }
 
@@ -83,9 +83,6 @@ pub struct Program<V> {
 
 /// A list of variables.
 pub type Vars = List<Var>;
-
-/// What an expression of a core is.
-pub type What = Form<Var>;
 
 /// An expression of a core.
 pub type Expr = Node<Var>;

@@ -1,20 +1,20 @@
 ghost use Rattle.std.specs.Prelude.{◌≡◌, [], ◌∷◌, IfOk};
 ghost use Rattle.scheme_base.specs.declared.lit.Lit.TheVariants as lit;
-ghost use Rattle.core_form.specs.declared.program.Form.TheVariants as form;
+ghost use Rattle.core_form.specs.declared.program.What.TheVariants as expr;
 
-use crate::{Core, Expr, Form, core_text};
+use crate::{Core, Expr, What, core_text};
 use scheme_base::{List, Lit, Pos};
 use std::alloc::{AllocError, Global};
 use std::test::Fail;
 
 /// `'(#\a)`
 fn sample(alloc: Global) -> Result<Core, AllocError>
-    ensures exprs { IfOk result (λ core. core.exprs ≡ record { what = form.Const 0; pos = record { line = 1; col = 1 } } ∷ []) }
+    ensures exprs { IfOk result (λ core. core.exprs ≡ record { what = expr.Const 0; pos = record { line = 1; col = 1 } } ∷ []) }
     ensures forms { IfOk result (λ core. core.forms ≡ 0 ∷ []) }
     ensures lits { IfOk result (λ core. core.lits ≡ lit.Pair 1 2 ∷ lit.Char 97 ∷ lit.Nil ∷ []) }
 {
     let expr = Expr {
-        what: Form::Const(0),
+        what: What::Const(0),
         pos: Pos { line: 1, col: 1 },
     };
     let exprs = List::from_vec(vec![in alloc; expr]?);

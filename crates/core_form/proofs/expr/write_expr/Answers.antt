@@ -1,10 +1,10 @@
 use Rattle.std.proofs.Common.{◌++◌, ◌∷◌, [], sym, ap, subst, ◌∙◌, ◌<◌, length, arith, append-nil}
 use Rattle.std.specs.Prelude.{codes}
 use Rattle.scheme_base.specs.Operands.{name_of}
-use Rattle.core_form.specs.declared.program.Form.TheVariants as form
+use Rattle.core_form.specs.declared.program.What.TheVariants as expr
 use Rattle.core_form.specs.declared.piece.Piece.TheVariants.{Next, List as Listed, Literal, Close}
 use Rattle.core_form.specs.Text.{var_text, vars_text, rest_text}
-use Rattle.core_form.proofs.Writing.{within, read, both, const_goes, ref_goes, lambda_goes, if_goes, set_goes, call_goes, prim_goes, seq_goes, fix_goes, define_goes}
+use Rattle.core_form.proofs.PieceTexts.{within, read, both, const_goes, ref_goes, lambda_goes, if_goes, set_goes, call_goes, prim_goes, seq_goes, fix_goes, define_goes}
 use Rattle.core_form.proofs.expr.write_expr.Goals as goal
 
 pub bounds-as_slice-expr : goal.bounds-as_slice-expr
@@ -22,7 +22,7 @@ returns-in_ok-extend_from_slice-in-Const-2 c =
       few = omega arith;
       whole = λ t rest h.
           const_goes c.args.core.now c.in-Const.lit t rest
-          (read c.args.core.now c.as_slice.result.now c.args.expr c.index-as_slice-expr.result (form.Const c.in-Const.lit) t
+          (read c.args.core.now c.as_slice.result.now c.args.expr c.index-as_slice-expr.result (expr.Const c.in-Const.lit) t
           c.as_slice.ensures (c.in-Const.is) h);
     }
 
@@ -37,7 +37,7 @@ returns-in_ok-push-in-Ref c =
       few = omega arith;
       whole = λ t rest h.
           ref_goes c.args.core.now c.in-Ref.var t rest
-          (read c.args.core.now c.as_slice.result.now c.args.expr c.index-as_slice-expr.result (form.Ref c.in-Ref.var) t
+          (read c.args.core.now c.as_slice.result.now c.args.expr c.index-as_slice-expr.result (expr.Ref c.in-Ref.var) t
           c.as_slice.ensures (c.in-Ref.is) h);
     }
 
@@ -54,7 +54,7 @@ returns-in_ok-extend_from_slice-in-Lambda-2 c =
       few = omega arith;
       whole = λ t rest h.
           lambda_goes c.args.core.now c.in-Lambda.params c.in-Lambda.rest c.in-Lambda.body t rest
-          (read c.args.core.now c.as_slice.result.now c.args.expr c.index-as_slice-expr.result (form.Lambda c.in-Lambda.params c.in-Lambda.rest c.in-Lambda.body) t
+          (read c.args.core.now c.as_slice.result.now c.args.expr c.index-as_slice-expr.result (expr.Lambda c.in-Lambda.params c.in-Lambda.rest c.in-Lambda.body) t
           c.as_slice.ensures (c.in-Lambda.is) h);
     }
 
@@ -68,7 +68,7 @@ returns-in_ok-extend_from_slice-in-If-2 c =
       few = omega arith;
       whole = λ t rest h.
           if_goes c.args.core.now c.in-If.test c.in-If.yes c.in-If.no t rest
-          (read c.args.core.now c.as_slice.result.now c.args.expr c.index-as_slice-expr.result (form.If c.in-If.test c.in-If.yes c.in-If.no) t
+          (read c.args.core.now c.as_slice.result.now c.args.expr c.index-as_slice-expr.result (expr.If c.in-If.test c.in-If.yes c.in-If.no) t
           c.as_slice.ensures (c.in-If.is) h);
     }
 
@@ -82,7 +82,7 @@ returns-in_ok-extend_from_slice-in-Set-2 c =
       few = omega arith;
       whole = λ t rest h.
           set_goes c.args.core.now c.in-Set.var c.in-Set.value t rest
-          (read c.args.core.now c.as_slice.result.now c.args.expr c.index-as_slice-expr.result (form.Set c.in-Set.var c.in-Set.value) t
+          (read c.args.core.now c.as_slice.result.now c.args.expr c.index-as_slice-expr.result (expr.Set c.in-Set.var c.in-Set.value) t
           c.as_slice.ensures (c.in-Set.is) h);
     }
 
@@ -96,7 +96,7 @@ returns-in_ok-extend_from_slice-in-Define-2 c =
       few = omega arith;
       whole = λ t rest h.
           define_goes c.args.core.now c.in-Define.var c.in-Define.value t rest
-          (read c.args.core.now c.as_slice.result.now c.args.expr c.index-as_slice-expr.result (form.Define c.in-Define.var c.in-Define.value) t
+          (read c.args.core.now c.as_slice.result.now c.args.expr c.index-as_slice-expr.result (expr.Define c.in-Define.var c.in-Define.value) t
           c.as_slice.ensures (c.in-Define.is) h);
     }
 
@@ -110,8 +110,8 @@ returns-in_ok-extend_from_slice-in-Call-2 c =
       few = omega arith;
       whole = λ t rest h.
           call_goes c.args.core.now c.in-Call.operator c.as_slice-in-Call.result t rest
-          (read c.args.core.now c.as_slice.result.now c.args.expr c.index-as_slice-expr.result (form.Call c.in-Call.operator c.as_slice-in-Call.result.now) t
-          c.as_slice.ensures (c.in-Call.is ∙ ap (λ is. form.Call c.in-Call.operator is) (sym c.as_slice-in-Call.ensures)) h);
+          (read c.args.core.now c.as_slice.result.now c.args.expr c.index-as_slice-expr.result (expr.Call c.in-Call.operator c.as_slice-in-Call.result.now) t
+          c.as_slice.ensures (c.in-Call.is ∙ ap (λ is. expr.Call c.in-Call.operator is) (sym c.as_slice-in-Call.ensures)) h);
     }
 
 pub returns-in_ok-extend_from_slice-in-Prim-3 : goal.returns-in_ok-extend_from_slice-in-Prim-3
@@ -125,8 +125,8 @@ returns-in_ok-extend_from_slice-in-Prim-3 c =
       few = omega arith;
       whole = λ t rest h.
           prim_goes c.args.core.now c.in-Prim.op c.as_slice-in-Prim.result t rest
-          (read c.args.core.now c.as_slice.result.now c.args.expr c.index-as_slice-expr.result (form.Prim c.in-Prim.op c.as_slice-in-Prim.result.now) t
-          c.as_slice.ensures (c.in-Prim.is ∙ ap (λ is. form.Prim c.in-Prim.op is) (sym c.as_slice-in-Prim.ensures)) h);
+          (read c.args.core.now c.as_slice.result.now c.args.expr c.index-as_slice-expr.result (expr.Prim c.in-Prim.op c.as_slice-in-Prim.result.now) t
+          c.as_slice.ensures (c.in-Prim.is ∙ ap (λ is. expr.Prim c.in-Prim.op is) (sym c.as_slice-in-Prim.ensures)) h);
     }
 
 pub returns-in_ok-extend_from_slice-in-Seq-2 : goal.returns-in_ok-extend_from_slice-in-Seq-2
@@ -139,8 +139,8 @@ returns-in_ok-extend_from_slice-in-Seq-2 c =
       few = omega arith;
       whole = λ t rest h.
           seq_goes c.args.core.now c.as_slice-in-Seq.result t rest
-          (read c.args.core.now c.as_slice.result.now c.args.expr c.index-as_slice-expr.result (form.Seq c.as_slice-in-Seq.result.now) t
-          c.as_slice.ensures (c.in-Seq.is ∙ ap (λ is. form.Seq is) (sym c.as_slice-in-Seq.ensures)) h);
+          (read c.args.core.now c.as_slice.result.now c.args.expr c.index-as_slice-expr.result (expr.Seq c.as_slice-in-Seq.result.now) t
+          c.as_slice.ensures (c.in-Seq.is ∙ ap (λ is. expr.Seq is) (sym c.as_slice-in-Seq.ensures)) h);
     }
 
 pub returns-in_ok-extend_from_slice-in-Fix-2 : goal.returns-in_ok-extend_from_slice-in-Fix-2
@@ -154,6 +154,6 @@ returns-in_ok-extend_from_slice-in-Fix-2 c =
       few = omega arith;
       whole = λ t rest h.
           fix_goes c.args.core.now c.in-Fix.vars c.as_slice-in-Fix-2.result c.in-Fix.body t rest
-          (read c.args.core.now c.as_slice.result.now c.args.expr c.index-as_slice-expr.result (form.Fix c.in-Fix.vars c.as_slice-in-Fix-2.result.now c.in-Fix.body) t
-          c.as_slice.ensures (c.in-Fix.is ∙ ap (λ is. form.Fix c.in-Fix.vars is c.in-Fix.body) (sym c.as_slice-in-Fix-2.ensures)) h);
+          (read c.args.core.now c.as_slice.result.now c.args.expr c.index-as_slice-expr.result (expr.Fix c.in-Fix.vars c.as_slice-in-Fix-2.result.now c.in-Fix.body) t
+          c.as_slice.ensures (c.in-Fix.is ∙ ap (λ is. expr.Fix c.in-Fix.vars is c.in-Fix.body) (sym c.as_slice-in-Fix-2.ensures)) h);
     }

@@ -1,7 +1,7 @@
 use Rattle.std.proofs.Common.{rules, ◌∷◌, [], sym, arith, append-nil}
 use Rattle.std.specs.Prelude.{codes}
 use Rattle.core_form.specs.declared.piece.Piece.TheVariants.{Expr, Rest}
-use Rattle.core_form.proofs.Writing.{list_ends, list_goes}
+use Rattle.core_form.proofs.PieceTexts.{list_ends, list_goes}
 use Rattle.core_form.proofs.expr.write_list.Goals as goal
 
 pub returns-in_ok-extend_from_slice-in-None : goal.returns-in_ok-extend_from_slice-in-None

@@ -1,6 +1,6 @@
 use Rattle.std.proofs.Common.{rules, ◌∷◌, [], sym, arith, append-nil}
 use Rattle.core_form.specs.declared.piece.Piece.TheVariants.{Expr, Rest}
-use Rattle.core_form.proofs.Writing.{rest_ends, rest_goes}
+use Rattle.core_form.proofs.PieceTexts.{rest_ends, rest_goes}
 use Rattle.core_form.proofs.expr.write_others.Goals as goal
 
 pub returns-in_ok-push-in-None : goal.returns-in_ok-push-in-None

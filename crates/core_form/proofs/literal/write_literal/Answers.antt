@@ -3,8 +3,8 @@ use Rattle.std.specs.Prelude.{codes}
 use Rattle.std.specs.Fmt.{signed_decimal}
 use Rattle.scheme_base.specs.declared.lit.Lit.TheVariants as lit
 use Rattle.core_form.specs.declared.piece.Piece.TheVariants.{Literal, Tail, More}
-use Rattle.core_form.specs.Text.{characters, letter_text, truth_text}
-use Rattle.core_form.proofs.Writing.{lit_read, plain_goes, pair_goes, row_ends, row_goes, both}
+use Rattle.scheme_base.specs.AtomText.{boolean_text, character_text, string_text}
+use Rattle.core_form.proofs.PieceTexts.{lit_read, plain_goes, pair_goes, row_ends, row_goes, both}
 use Rattle.core_form.proofs.literal.write_literal.Goals as goal
 
 pub returns-in_ok-write_integer-in-Integer : goal.returns-in_ok-write_integer-in-Integer
@@ -22,26 +22,26 @@ returns-in_ok-write_integer-in-Integer c =
 pub returns-in_ok-write_boolean-in-Boolean : goal.returns-in_ok-write_boolean-in-Boolean
 returns-in_ok-write_boolean-in-Boolean c =
     record {
-      written = truth_text c.in-Boolean.value;
+      written = boolean_text c.in-Boolean.value;
       left = [];
       text = c.in_ok-write_boolean-in-Boolean.ensures;
       stack = sym (append-nil _);
       few = omega arith;
       whole = λ t rest h.
-          plain_goes c.args.core.now (truth_text c.in-Boolean.value) t rest
+          plain_goes c.args.core.now (boolean_text c.in-Boolean.value) t rest
           (lit_read c.args.core.now c.as_slice.result.now c.args.lit c.index-as_slice-lit.result (lit.Boolean c.in-Boolean.value) t c.as_slice.ensures c.index-as_slice-lit.is c.in-Boolean.is h);
     }
 
-pub returns-in_ok-write_letter-in-Char : goal.returns-in_ok-write_letter-in-Char
-returns-in_ok-write_letter-in-Char c =
+pub returns-in_ok-write_character-in-Char : goal.returns-in_ok-write_character-in-Char
+returns-in_ok-write_character-in-Char c =
     record {
-      written = letter_text c.in-Char.byte;
+      written = character_text c.in-Char.byte;
       left = [];
-      text = c.in_ok-write_letter-in-Char.ensures;
+      text = c.in_ok-write_character-in-Char.ensures;
       stack = sym (append-nil _);
       few = omega arith;
       whole = λ t rest h.
-          plain_goes c.args.core.now (letter_text c.in-Char.byte) t rest (lit_read c.args.core.now c.as_slice.result.now c.args.lit c.index-as_slice-lit.result (lit.Char c.in-Char.byte) t c.as_slice.ensures c.index-as_slice-lit.is c.in-Char.is h);
+          plain_goes c.args.core.now (character_text c.in-Char.byte) t rest (lit_read c.args.core.now c.as_slice.result.now c.args.lit c.index-as_slice-lit.result (lit.Char c.in-Char.byte) t c.as_slice.ensures c.index-as_slice-lit.is c.in-Char.is h);
     }
 
 pub returns-in_ok-extend_from_slice-in-Nil : goal.returns-in_ok-extend_from_slice-in-Nil
@@ -95,13 +95,13 @@ returns-in_ok-extend_from_slice-in-Symbol c =
 pub returns-in_ok-write_string-in-Text : goal.returns-in_ok-write_string-in-Text
 returns-in_ok-write_string-in-Text c =
     record {
-      written = 34 ∷ characters c.in-Text.bytes;
+      written = string_text c.in-Text.bytes;
       left = [];
-      text = c.in_ok-write_string-in-Text.ensures ∙ ap (λ x. c.args.text.now.items ++ 34 ∷ characters x) c.as_slice-in-Text.ensures;
+      text = c.in_ok-write_string-in-Text.ensures ∙ ap (λ x. c.args.text.now.items ++ string_text x) c.as_slice-in-Text.ensures;
       stack = sym (append-nil _);
       few = omega arith;
       whole = λ t rest h.
-          plain_goes c.args.core.now (34 ∷ characters c.in-Text.bytes) t rest (lit_read c.args.core.now c.as_slice.result.now c.args.lit c.index-as_slice-lit.result (lit.Text c.in-Text.bytes) t c.as_slice.ensures c.index-as_slice-lit.is c.in-Text.is h);
+          plain_goes c.args.core.now (string_text c.in-Text.bytes) t rest (lit_read c.args.core.now c.as_slice.result.now c.args.lit c.index-as_slice-lit.result (lit.Text c.in-Text.bytes) t c.as_slice.ensures c.index-as_slice-lit.is c.in-Text.is h);
     }
 
 pub returns-in_ok-extend_from_slice-in-Pair : goal.returns-in_ok-extend_from_slice-in-Pair

@@ -1,6 +1,6 @@
 use Rattle.std.proofs.Common.{rules, ◌∷◌, [], sym, arith, append-nil}
 use Rattle.core_form.specs.declared.piece.Piece.TheVariants.{Literal, More}
-use Rattle.core_form.proofs.Writing.{more_ends, more_goes}
+use Rattle.core_form.proofs.PieceTexts.{more_ends, more_goes}
 use Rattle.core_form.proofs.literal.write_more.Goals as goal
 
 pub returns-in_ok-push-in-None : goal.returns-in_ok-push-in-None

@@ -2,7 +2,7 @@ use Rattle.std.proofs.Common.{◌∷◌, [], refl, sym, arith, append-nil}
 use Rattle.std.specs.Prelude.{codes}
 use Rattle.scheme_base.specs.declared.lit.Lit.TheVariants as lit
 use Rattle.core_form.specs.declared.piece.Piece.TheVariants.{Literal, Tail, Close}
-use Rattle.core_form.proofs.Writing.{tail_read, plain_goes, tail_goes, dotted_goes, no_list}
+use Rattle.core_form.proofs.PieceTexts.{tail_read, plain_goes, tail_goes, dotted_goes, no_list}
 use Rattle.core_form.proofs.literal.write_tail.Goals as goal
 
 pub returns-in_ok-push-in-Nil : goal.returns-in_ok-push-in-Nil

@@ -1,4 +1,4 @@
-use Rattle.core_form.proofs.Texts.{has_text}
+use Rattle.core_form.proofs.CoreChecks.{has_text}
 use Rattle.core_form.proofs.tests.literal_is_written.Goals as goal
 
 pub core_text-requires : goal.core_text-requires

@@ -1,6 +1,6 @@
 use Rattle.std.proofs.Common.{rules, ◌++◌, sym, ap, subst, ◌∙◌, append-nil}
 use Rattle.core_form.specs.Pieces.{LinesText}
-use Rattle.core_form.proofs.Writing.{one_line, no_line, line_after}
+use Rattle.core_form.proofs.PieceTexts.{one_line, no_line, line_after}
 use Rattle.core_form.proofs.text.core_text.Goals as goal
 
 pub loop-form-init : goal.loop-form-init

@@ -1,6 +1,6 @@
 use Rattle.std.proofs.Common.{◌++◌, ◌∷◌, [], ◌<◌, ◌^◌, length, ◌*◌, ◌-◌, ◌+◌, sym, ap, subst, ◌∙◌, arith}
 use Rattle.core_form.specs.declared.piece.Piece.TheVariants.{Expr}
-use Rattle.core_form.proofs.Writing.{Left, turn, next_piece, shrinks, finished, begun, empty}
+use Rattle.core_form.proofs.PieceTexts.{Left, turn, next_piece, shrinks, finished, begun, empty}
 use Rattle.core_form.proofs.text.write_form.Goals as goal
 
 pub loop-piece-init : goal.loop-piece-init

@@ -1,6 +1,6 @@
 use Rattle.std.proofs.Common.{ℕ, List, ◌+◌, ◌-◌, ◌*◌, ◌^◌, ◌++◌, length}
 use Rattle.core_form.specs.Pieces.{ExprText}
-use Rattle.core_form.proofs.Writing.{Left}
+use Rattle.core_form.proofs.PieceTexts.{Left}
 use Rattle.core_form.proofs.text.write_form.Given as goal
 
 abbrev pub invariant-loop-piece : goal.invariant-loop-piece

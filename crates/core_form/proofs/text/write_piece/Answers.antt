@@ -1,7 +1,7 @@
 use Rattle.std.proofs.Common.{◌∷◌, [], sym, subst, arith}
 use Rattle.core_form.specs.declared.piece.Piece.TheVariants.{Expr}
 use Rattle.core_form.specs.Pieces.{Writes}
-use Rattle.core_form.proofs.Writing.{next_goes}
+use Rattle.core_form.proofs.PieceTexts.{next_goes}
 use Rattle.core_form.proofs.text.write_piece.Goals as goal
 
 pub returns-in_ok-push-in-Next-2 : goal.returns-in_ok-push-in-Next-2

@@ -7,77 +7,77 @@ use Rattle.scheme_base.specs.declared.lit.Lit.{Lit}
 use Rattle.scheme_base.specs.declared.lit.Lit.TheVariants as lit
 use Rattle.scheme_base.specs.declared.op.Op.{Op}
 use Rattle.scheme_base.specs.Operands.{name_of}
-use Rattle.scheme_base.specs.Literals.{Constant, Number, Truth, Letter, Empty, Unnamed, Hole, Name, Words, Couple, Row, Constants, none as no_constant, item as constant, Laid, LaidAll}
+use Rattle.scheme_base.specs.Constants.{Constant, Integer, Boolean, Character, Nil, Unspecified, Undefined, Symbol, String, Pair, Vector, Constants, none as no_constant, item as constant}
+use Rattle.scheme_base.specs.Literals.{Laid, LaidAll}
+use Rattle.scheme_base.proofs.Lists.{same_item, nil-cons, same_head, same_tail}
 use Rattle.core_form.specs.declared.program.Var.{Var}
 use Rattle.core_form.specs.declared.program.Node.{Node}
 use Rattle.core_form.specs.declared.program.Program.{Program}
-use Rattle.core_form.specs.declared.program.Form.{Form}
-use Rattle.core_form.specs.declared.program.Form.TheVariants as form
+use Rattle.core_form.specs.declared.program.What.{What}
+use Rattle.core_form.specs.declared.program.What.TheVariants as expr
 use Rattle.core_form.specs.declared.piece.Piece.{Piece}
 use Rattle.core_form.specs.declared.piece.Piece.TheVariants.{Expr, Next, List as Listed, Rest, Literal, Tail, More, Close}
 use Rattle.core_form.specs.Trees.{Tree, Const, Ref, Lambda, If, Set, Call, Prim, Seq, Fix, Define, Trees, none, item, Stands, StandAll}
-use Rattle.core_form.specs.Text.{constant_text, tail_text, items_text, more_text, dotted, letter_text, truth_text, characters, IsLiteralText, var_text, vars_text, rest_text, IsText, IsListText}
+use Rattle.scheme_base.specs.AtomText.{boolean_text, character_text, string_text}
+use Rattle.core_form.specs.Text.{constant_text, tail_text, items_text, more_text, dotted, IsLiteralText, var_text, vars_text, rest_text, IsText, IsListText}
 use Rattle.core_form.specs.Pieces.{ExprText, RestText, PieceText, StackText, Writes, LinesText}
-
-same_some : {A : Type 0} (o : Option A) (x y : A) → o ≡ Some x → o ≡ Some y → x ≡ y
-same_some o x y h k = cc
 
 abbrev pub ListText : Program Var → List ℕ → List ℕ → Type 0
 ListText core ids t = (es : Trees Var) × StandAll core.exprs ids es × IsListText core.lits es t
 
 -- the text of an expression by its parts
-abbrev pub PartsText : Program Var → Form Var → List ℕ → Type 0
-PartsText core (form.Const l) t = (u : List ℕ) × IsLiteralText core.lits l u × (t ≡ codes "(const " ++ (u ++ codes ")"))
-PartsText core (form.Ref x) t = t ≡ codes "(ref " ++ (var_text x ++ codes ")")
-PartsText core (form.Lambda xs rest body) t =
+abbrev pub PartsText : Program Var → What Var → List ℕ → Type 0
+PartsText core (expr.Const l) t = (u : List ℕ) × IsLiteralText core.lits l u × (t ≡ codes "(const " ++ (u ++ codes ")"))
+PartsText core (expr.Ref x) t = t ≡ codes "(ref " ++ (var_text x ++ codes ")")
+PartsText core (expr.Lambda xs rest body) t =
     (u : List ℕ) × ExprText core body u
     × (t ≡ codes "(lambda " ++ (vars_text xs ++ (32 ∷ rest_text rest ++ (32 ∷ u ++ codes ")"))))
-PartsText core (form.If a b d) t =
+PartsText core (expr.If a b d) t =
     (u v w : List ℕ) × ExprText core a u × ExprText core b v × ExprText core d w
     × (t ≡ codes "(if " ++ (u ++ (32 ∷ v ++ (32 ∷ w ++ codes ")"))))
-PartsText core (form.Set x a) t =
+PartsText core (expr.Set x a) t =
     (u : List ℕ) × ExprText core a u × (t ≡ codes "(set " ++ (var_text x ++ (32 ∷ u ++ codes ")")))
-PartsText core (form.Call f ids) t =
+PartsText core (expr.Call f ids) t =
     (u v : List ℕ) × ExprText core f u × ListText core ids v × (t ≡ codes "(call " ++ (u ++ (32 ∷ v ++ codes ")")))
-PartsText core (form.Prim o ids) t =
+PartsText core (expr.Prim o ids) t =
     (v : List ℕ) × ListText core ids v × (t ≡ codes "(prim " ++ (name_of o ++ (32 ∷ v ++ codes ")")))
-PartsText core (form.Seq ids) t = (v : List ℕ) × ListText core ids v × (t ≡ codes "(seq " ++ (v ++ codes ")"))
-PartsText core (form.Fix xs ids a) t =
+PartsText core (expr.Seq ids) t = (v : List ℕ) × ListText core ids v × (t ≡ codes "(seq " ++ (v ++ codes ")"))
+PartsText core (expr.Fix xs ids a) t =
     (v u : List ℕ) × ListText core ids v × ExprText core a u
     × (t ≡ codes "(fix " ++ (vars_text xs ++ (32 ∷ v ++ (32 ∷ u ++ codes ")"))))
-PartsText core (form.Define x a) t =
+PartsText core (expr.Define x a) t =
     (u : List ℕ) × ExprText core a u × (t ≡ codes "(define " ++ (var_text x ++ (32 ∷ u ++ codes ")")))
 
 -- the expression of this number is what its tree says
 parts_of : (core : Program Var) (id : ℕ) (node : Node Var) (t : List ℕ) → slice_get core.exprs id ≡ Some node
     → (e : Tree Var) → Stands core.exprs id e → IsText core.lits e t → PartsText core node.what t
 parts_of core id node t got (Const p l) s h =
-    subst (λ n. PartsText core n.what t) (same_some (slice_get core.exprs id) _ node s got) h
+    subst (λ n. PartsText core n.what t) (same_item (slice_get core.exprs id) _ node s got) h
 parts_of core id node t got (Ref p x) s h =
-    subst (λ n. PartsText core n.what t) (same_some (slice_get core.exprs id) _ node s got) h
+    subst (λ n. PartsText core n.what t) (same_item (slice_get core.exprs id) _ node s got) h
 parts_of core id node t got (Lambda p xs rest e) s h =
-    subst (λ n. PartsText core n.what t) (same_some (slice_get core.exprs id) _ node s.1 got)
+    subst (λ n. PartsText core n.what t) (same_item (slice_get core.exprs id) _ node s.1 got)
     (h.0, (e, s.2, h.1), h.2)
 parts_of core id node t got (If p a b d) s h =
-    subst (λ n. PartsText core n.what t) (same_some (slice_get core.exprs id) _ node s.3 got)
+    subst (λ n. PartsText core n.what t) (same_item (slice_get core.exprs id) _ node s.3 got)
     (h.0, h.1, h.2, (a, s.4, h.3), (b, s.5, h.4), (d, s.6, h.5), h.6)
 parts_of core id node t got (Set p x e) s h =
-    subst (λ n. PartsText core n.what t) (same_some (slice_get core.exprs id) _ node s.1 got)
+    subst (λ n. PartsText core n.what t) (same_item (slice_get core.exprs id) _ node s.1 got)
     (h.0, (e, s.2, h.1), h.2)
 parts_of core id node t got (Call p f es) s h =
-    subst (λ n. PartsText core n.what t) (same_some (slice_get core.exprs id) _ node s.2 got)
+    subst (λ n. PartsText core n.what t) (same_item (slice_get core.exprs id) _ node s.2 got)
     (h.0, h.1, (f, s.3, h.2), (es, s.4, h.3), h.4)
 parts_of core id node t got (Prim p o es) s h =
-    subst (λ n. PartsText core n.what t) (same_some (slice_get core.exprs id) _ node s.1 got)
+    subst (λ n. PartsText core n.what t) (same_item (slice_get core.exprs id) _ node s.1 got)
     (h.0, (es, s.2, h.1), h.2)
 parts_of core id node t got (Seq p es) s h =
-    subst (λ n. PartsText core n.what t) (same_some (slice_get core.exprs id) _ node s.1 got)
+    subst (λ n. PartsText core n.what t) (same_item (slice_get core.exprs id) _ node s.1 got)
     (h.0, (es, s.2, h.1), h.2)
 parts_of core id node t got (Fix p xs ls e) s h =
-    subst (λ n. PartsText core n.what t) (same_some (slice_get core.exprs id) _ node s.2 got)
+    subst (λ n. PartsText core n.what t) (same_item (slice_get core.exprs id) _ node s.2 got)
     (h.0, h.1, (ls, s.3, h.2), (e, s.4, h.3), h.4)
 parts_of core id node t got (Define p x e) s h =
-    subst (λ n. PartsText core n.what t) (same_some (slice_get core.exprs id) _ node s.1 got)
+    subst (λ n. PartsText core n.what t) (same_item (slice_get core.exprs id) _ node s.1 got)
     (h.0, (e, s.2, h.1), h.2)
 
 pub parts : (core : Program Var) (id : ℕ) (node : Node Var) (t : List ℕ) → slice_get core.exprs id ≡ Some node
@@ -100,7 +100,7 @@ within core id t (e, s, h) = in_list core id e s where
   in_list c i (Define p x b) s = slice_get_within c.exprs i _ s.1
 
 -- the parts of an expression that was read from the list
-pub read : (core : Program Var) (exprs : List (Node Var)) (id : ℕ) (d : Node Var) (what : Form Var) (t : List ℕ)
+pub read : (core : Program Var) (exprs : List (Node Var)) (id : ℕ) (d : Node Var) (what : What Var) (t : List ℕ)
     → exprs ≡ core.exprs → (get_or exprs id d).what ≡ what → ExprText core id t → PartsText core what t
 read core exprs id d what t same is h =
     let got : slice_get core.exprs id ≡ Some (get_or core.exprs id d) =
@@ -123,7 +123,7 @@ GoesOn core written left t rest = (v : List ℕ) × StackText core left rest v �
 spaced : (core : Program Var) (id : ℕ) (u : List ℕ) → ExprText core id u → PieceText core (Next id) (32 ∷ u)
 spaced core id u h = (u, h, refl)
 
-pub const_goes : (core : Program Var) (l : ℕ) (t rest : List ℕ) → PartsText core (form.Const l) t
+pub const_goes : (core : Program Var) (l : ℕ) (t rest : List ℕ) → PartsText core (expr.Const l) t
     → GoesOn core (codes "(const ") (Close ∷ Literal l ∷ []) t rest
 const_goes core l t rest h = (
   h.0 ++ (41 ∷ rest),
@@ -131,12 +131,12 @@ const_goes core l t rest h = (
   ap (λ x. x ++ rest) h.2 ∙ simp (append_assoc) refl,
 )
 
-pub ref_goes : (core : Program Var) (x : Var) (t rest : List ℕ) → PartsText core (form.Ref x) t
+pub ref_goes : (core : Program Var) (x : Var) (t rest : List ℕ) → PartsText core (expr.Ref x) t
     → GoesOn core (codes "(ref " ++ (var_text x ++ codes ")")) [] t rest
 ref_goes core x t rest h = (rest, refl, ap (λ y. y ++ rest) h)
 
 pub lambda_goes : (core : Program Var) (xs : List Var) (r : Option Var) (body : ℕ) (t rest : List ℕ)
-    → PartsText core (form.Lambda xs r body) t
+    → PartsText core (expr.Lambda xs r body) t
     → GoesOn core (codes "(lambda " ++ (vars_text xs ++ (32 ∷ rest_text r))) (Close ∷ Next body ∷ []) t rest
 lambda_goes core xs r body t rest h = (
   32 ∷ h.0 ++ (41 ∷ rest),
@@ -144,7 +144,7 @@ lambda_goes core xs r body t rest h = (
   ap (λ x. x ++ rest) h.2 ∙ simp (append_assoc) refl,
 )
 
-pub if_goes : (core : Program Var) (a b d : ℕ) (t rest : List ℕ) → PartsText core (form.If a b d) t
+pub if_goes : (core : Program Var) (a b d : ℕ) (t rest : List ℕ) → PartsText core (expr.If a b d) t
     → GoesOn core (codes "(if") (Close ∷ Next d ∷ Next b ∷ Next a ∷ []) t rest
 if_goes core a b d t rest h =
     let u = h.0 in
@@ -159,7 +159,7 @@ if_goes core a b d t rest h =
       ap (λ x. x ++ rest) h.6 ∙ simp (append_assoc) refl,
     )
 
-pub set_goes : (core : Program Var) (x : Var) (a : ℕ) (t rest : List ℕ) → PartsText core (form.Set x a) t
+pub set_goes : (core : Program Var) (x : Var) (a : ℕ) (t rest : List ℕ) → PartsText core (expr.Set x a) t
     → GoesOn core (codes "(set " ++ var_text x) (Close ∷ Next a ∷ []) t rest
 set_goes core x a t rest h = (
   32 ∷ h.0 ++ (41 ∷ rest),
@@ -167,7 +167,7 @@ set_goes core x a t rest h = (
   ap (λ y. y ++ rest) h.2 ∙ simp (append_assoc) refl,
 )
 
-pub define_goes : (core : Program Var) (x : Var) (a : ℕ) (t rest : List ℕ) → PartsText core (form.Define x a) t
+pub define_goes : (core : Program Var) (x : Var) (a : ℕ) (t rest : List ℕ) → PartsText core (expr.Define x a) t
     → GoesOn core (codes "(define " ++ var_text x) (Close ∷ Next a ∷ []) t rest
 define_goes core x a t rest h = (
   32 ∷ h.0 ++ (41 ∷ rest),
@@ -179,7 +179,7 @@ define_goes core x a t rest h = (
 listed : (core : Program Var) (r : Bor (List ℕ)) (u : List ℕ) → ListText core r.now u → PieceText core (Listed r) (32 ∷ u)
 listed core r u h = (h.0, u, h.1, h.2, refl)
 
-pub call_goes : (core : Program Var) (f : ℕ) (r : Bor (List ℕ)) (t rest : List ℕ) → PartsText core (form.Call f r.now) t
+pub call_goes : (core : Program Var) (f : ℕ) (r : Bor (List ℕ)) (t rest : List ℕ) → PartsText core (expr.Call f r.now) t
     → GoesOn core (codes "(call") (Close ∷ Listed r ∷ Next f ∷ []) t rest
 call_goes core f r t rest h = (
   32 ∷ h.0 ++ (32 ∷ h.1 ++ (41 ∷ rest)),
@@ -187,7 +187,7 @@ call_goes core f r t rest h = (
   ap (λ x. x ++ rest) h.4 ∙ simp (append_assoc) refl,
 )
 
-pub prim_goes : (core : Program Var) (o : Op) (r : Bor (List ℕ)) (t rest : List ℕ) → PartsText core (form.Prim o r.now) t
+pub prim_goes : (core : Program Var) (o : Op) (r : Bor (List ℕ)) (t rest : List ℕ) → PartsText core (expr.Prim o r.now) t
     → GoesOn core (codes "(prim " ++ name_of o) (Close ∷ Listed r ∷ []) t rest
 prim_goes core o r t rest h = (
   32 ∷ h.0 ++ (41 ∷ rest),
@@ -195,7 +195,7 @@ prim_goes core o r t rest h = (
   ap (λ x. x ++ rest) h.2 ∙ simp (append_assoc) refl,
 )
 
-pub seq_goes : (core : Program Var) (r : Bor (List ℕ)) (t rest : List ℕ) → PartsText core (form.Seq r.now) t
+pub seq_goes : (core : Program Var) (r : Bor (List ℕ)) (t rest : List ℕ) → PartsText core (expr.Seq r.now) t
     → GoesOn core (codes "(seq") (Close ∷ Listed r ∷ []) t rest
 seq_goes core r t rest h = (
   32 ∷ h.0 ++ (41 ∷ rest),
@@ -204,7 +204,7 @@ seq_goes core r t rest h = (
 )
 
 pub fix_goes : (core : Program Var) (xs : List Var) (r : Bor (List ℕ)) (a : ℕ) (t rest : List ℕ)
-    → PartsText core (form.Fix xs r.now a) t
+    → PartsText core (expr.Fix xs r.now a) t
     → GoesOn core (codes "(fix " ++ vars_text xs) (Close ∷ Next a ∷ Listed r ∷ []) t rest
 fix_goes core xs r a t rest h = (
   32 ∷ h.0 ++ (32 ∷ h.1 ++ (41 ∷ rest)),
@@ -214,26 +214,17 @@ fix_goes core xs r a t rest h = (
 
 -- Lists of expressions
 
-nothing : {A : Type 0} (x : A) (xs : List A) → [] ≡ x ∷ xs → ⊥
-nothing x xs e = cc
-
-same_head : {A : Type 0} (x y : A) (xs ys : List A) → x ∷ xs ≡ y ∷ ys → x ≡ y
-same_head x y xs ys e = cc
-
-same_tail : {A : Type 0} (x y : A) (xs ys : List A) → x ∷ xs ≡ y ∷ ys → xs ≡ ys
-same_tail x y xs ys e = cc
-
 pub empty : {A : Type 0} (xs : List A) → length xs ≡ 0 → xs ≡ []
 empty [] e = refl
 empty (x ∷ xs) e = absurd (omega (arith, e))
 
 pub rest_ends : (core : Program Var) (ids t rest : List ℕ) → length ids ≡ 0 → RestText core ids t → GoesOn core (41 ∷ []) [] t rest
 rest_ends core ids t rest e (none, s, h) = (rest, refl, ap (λ x. x ++ rest) h)
-rest_ends core ids t rest e (item f es, s, h) = absurd (nothing s.0 s.1 (sym (empty ids e) ∙ s.2))
+rest_ends core ids t rest e (item f es, s, h) = absurd (nil-cons s.0 s.1 (sym (empty ids e) ∙ s.2))
 
 pub rest_goes : (core : Program Var) (ids t rest : List ℕ) (first : ℕ) (r : Bor (List ℕ)) → ids ≡ first ∷ r.now
     → RestText core ids t → GoesOn core (32 ∷ []) (Rest r ∷ Expr first ∷ []) t rest
-rest_goes core ids t rest first r e (none, s, h) = absurd (nothing first r.now (sym s ∙ e))
+rest_goes core ids t rest first r e (none, s, h) = absurd (nil-cons first r.now (sym s ∙ e))
 rest_goes core ids t rest first r e (item f es, s, h) =
     let same = sym s.2 ∙ e in
     let one : Stands core.exprs first f =
@@ -250,11 +241,11 @@ rest_goes core ids t rest first r e (item f es, s, h) =
 pub list_ends : (core : Program Var) (r : Bor (List ℕ)) (t rest : List ℕ) → length r.now ≡ 0 → PieceText core (Listed r) t
     → GoesOn core (codes " ()") [] t rest
 list_ends core r t rest e (none, u, s, h, k) = (rest, refl, ap (λ x. x ++ rest) (k ∙ ap (λ y. 32 ∷ y) h))
-list_ends core r t rest e (item f es, u, s, h, k) = absurd (nothing s.0 s.1 (sym (empty r.now e) ∙ s.2))
+list_ends core r t rest e (item f es, u, s, h, k) = absurd (nil-cons s.0 s.1 (sym (empty r.now e) ∙ s.2))
 
 pub list_goes : (core : Program Var) (l : Bor (List ℕ)) (t rest : List ℕ) (first : ℕ) (r : Bor (List ℕ)) → l.now ≡ first ∷ r.now
     → PieceText core (Listed l) t → GoesOn core (codes " (") (Rest r ∷ Expr first ∷ []) t rest
-list_goes core l t rest first r e (none, u, s, h, k) = absurd (nothing first r.now (sym s ∙ e))
+list_goes core l t rest first r e (none, u, s, h, k) = absurd (nil-cons first r.now (sym s ∙ e))
 list_goes core l t rest first r e (item f es, u, s, h, k) =
     let same = sym s.2 ∙ e in
     let one : Stands core.exprs first f =
@@ -280,13 +271,13 @@ close_goes core t rest h = (rest, refl, ap (λ x. x ++ rest) h)
 -- the text of a literal that has no parts
 abbrev pub plain_text : Lit → List ℕ
 plain_text (lit.Integer z) = signed_decimal z
-plain_text (lit.Boolean b) = truth_text b
-plain_text (lit.Char byte) = letter_text byte
+plain_text (lit.Boolean b) = boolean_text b
+plain_text (lit.Char byte) = character_text byte
 plain_text lit.Nil = codes "()"
 plain_text lit.Unspecified = codes "#<unspecified>"
 plain_text lit.Undefined = codes "#<undefined>"
 plain_text (lit.Symbol name) = name
-plain_text (lit.Text bytes) = 34 ∷ characters bytes
+plain_text (lit.Text bytes) = string_text bytes
 plain_text l = []
 
 -- the text of a literal by its parts
@@ -299,39 +290,39 @@ LitText core l t = t ≡ plain_text l
 
 pub lit_parts : (core : Program Var) (id : ℕ) (l : Lit) (t : List ℕ) → slice_get core.lits id ≡ Some l
     → IsLiteralText core.lits id t → LitText core l t
-lit_parts core id l t got (Number z, j, laid, e) =
-    subst (λ k. LitText core k t) (same_some (slice_get core.lits id) _ l laid.0 got) e
-lit_parts core id l t got (Truth b, j, laid, e) =
-    subst (λ k. LitText core k t) (same_some (slice_get core.lits id) _ l laid.0 got) e
-lit_parts core id l t got (Letter b, j, laid, e) =
-    subst (λ k. LitText core k t) (same_some (slice_get core.lits id) _ l laid.0 got) e
-lit_parts core id l t got (Empty, j, laid, e) =
-    subst (λ k. LitText core k t) (same_some (slice_get core.lits id) _ l laid.0 got) e
-lit_parts core id l t got (Unnamed, j, laid, e) =
-    subst (λ k. LitText core k t) (same_some (slice_get core.lits id) _ l laid.0 got) e
-lit_parts core id l t got (Hole, j, laid, e) =
-    subst (λ k. LitText core k t) (same_some (slice_get core.lits id) _ l laid.0 got) e
-lit_parts core id l t got (Name name, j, laid, e) =
-    subst (λ k. LitText core k t) (same_some (slice_get core.lits id) _ l laid.0 got) e
-lit_parts core id l t got (Words bytes, j, laid, e) =
-    subst (λ k. LitText core k t) (same_some (slice_get core.lits id) _ l laid.0 got) e
-lit_parts core id l t got (Couple a d, j, laid, e) =
-    subst (λ k. LitText core k t) (same_some (slice_get core.lits id) _ l laid.1 got)
+lit_parts core id l t got (Integer z, j, laid, e) =
+    subst (λ k. LitText core k t) (same_item (slice_get core.lits id) _ l laid.0 got) e
+lit_parts core id l t got (Boolean b, j, laid, e) =
+    subst (λ k. LitText core k t) (same_item (slice_get core.lits id) _ l laid.0 got) e
+lit_parts core id l t got (Character b, j, laid, e) =
+    subst (λ k. LitText core k t) (same_item (slice_get core.lits id) _ l laid.0 got) e
+lit_parts core id l t got (Nil, j, laid, e) =
+    subst (λ k. LitText core k t) (same_item (slice_get core.lits id) _ l laid.0 got) e
+lit_parts core id l t got (Unspecified, j, laid, e) =
+    subst (λ k. LitText core k t) (same_item (slice_get core.lits id) _ l laid.0 got) e
+lit_parts core id l t got (Undefined, j, laid, e) =
+    subst (λ k. LitText core k t) (same_item (slice_get core.lits id) _ l laid.0 got) e
+lit_parts core id l t got (Symbol name, j, laid, e) =
+    subst (λ k. LitText core k t) (same_item (slice_get core.lits id) _ l laid.0 got) e
+lit_parts core id l t got (String bytes, j, laid, e) =
+    subst (λ k. LitText core k t) (same_item (slice_get core.lits id) _ l laid.0 got) e
+lit_parts core id l t got (Pair a d, j, laid, e) =
+    subst (λ k. LitText core k t) (same_item (slice_get core.lits id) _ l laid.1 got)
     (constant_text a, tail_text d, (a, laid.0, laid.2, refl), (d, j, laid.3, refl), e)
-lit_parts core id l t got (Row cs, j, laid, e) =
-    subst (λ k. LitText core k t) (same_some (slice_get core.lits id) _ l laid.1 got) (suc id, cs, j, laid.2, e)
+lit_parts core id l t got (Vector cs, j, laid, e) =
+    subst (λ k. LitText core k t) (same_item (slice_get core.lits id) _ l laid.1 got) (suc id, cs, j, laid.2, e)
 
 lit_within : (core : Program Var) (id : ℕ) (c : Constant) (j : ℕ) → Laid core.lits id c j → id < length core.lits
-lit_within core id (Number z) j laid = slice_get_within core.lits id _ laid.0
-lit_within core id (Truth b) j laid = slice_get_within core.lits id _ laid.0
-lit_within core id (Letter b) j laid = slice_get_within core.lits id _ laid.0
-lit_within core id Empty j laid = slice_get_within core.lits id _ laid.0
-lit_within core id Unnamed j laid = slice_get_within core.lits id _ laid.0
-lit_within core id Hole j laid = slice_get_within core.lits id _ laid.0
-lit_within core id (Name name) j laid = slice_get_within core.lits id _ laid.0
-lit_within core id (Words bytes) j laid = slice_get_within core.lits id _ laid.0
-lit_within core id (Couple a d) j laid = slice_get_within core.lits id _ laid.1
-lit_within core id (Row cs) j laid = slice_get_within core.lits id _ laid.1
+lit_within core id (Integer z) j laid = slice_get_within core.lits id _ laid.0
+lit_within core id (Boolean b) j laid = slice_get_within core.lits id _ laid.0
+lit_within core id (Character b) j laid = slice_get_within core.lits id _ laid.0
+lit_within core id Nil j laid = slice_get_within core.lits id _ laid.0
+lit_within core id Unspecified j laid = slice_get_within core.lits id _ laid.0
+lit_within core id Undefined j laid = slice_get_within core.lits id _ laid.0
+lit_within core id (Symbol name) j laid = slice_get_within core.lits id _ laid.0
+lit_within core id (String bytes) j laid = slice_get_within core.lits id _ laid.0
+lit_within core id (Pair a d) j laid = slice_get_within core.lits id _ laid.1
+lit_within core id (Vector cs) j laid = slice_get_within core.lits id _ laid.1
 
 -- a literal that was read from the list
 got_lit : (core : Program Var) (lits : List Lit) (id : ℕ) (d l : Lit) → lits ≡ core.lits → d ≡ get_or lits id d → d ≡ l
@@ -359,11 +350,11 @@ pair_goes core a d t rest h = (
 pub row_ends : (core : Program Var) (ids t rest : List ℕ) → length ids ≡ 0 → LitText core (lit.Vector ids) t
     → GoesOn core (codes "#()") [] t rest
 row_ends core ids t rest e (i, no_constant, j, all, h) = (rest, refl, ap (λ x. x ++ rest) h)
-row_ends core ids t rest e (i, constant c cs, j, all, h) = absurd (nothing i all.0 (sym (empty ids e) ∙ all.2))
+row_ends core ids t rest e (i, constant c cs, j, all, h) = absurd (nil-cons i all.0 (sym (empty ids e) ∙ all.2))
 
 pub row_goes : (core : Program Var) (ids t rest : List ℕ) (first : ℕ) (r : Bor (List ℕ)) → ids ≡ first ∷ r.now
     → LitText core (lit.Vector ids) t → GoesOn core (codes "#(") (More r ∷ Literal first ∷ []) t rest
-row_goes core ids t rest first r e (i, no_constant, j, all, h) = absurd (nothing first r.now (sym all.0 ∙ e))
+row_goes core ids t rest first r e (i, no_constant, j, all, h) = absurd (nil-cons first r.now (sym all.0 ∙ e))
 row_goes core ids t rest first r e (i, constant c cs, j, all, h) =
     let same = sym all.2 ∙ e in
     let one : Laid core.lits first c all.1 =
@@ -380,11 +371,11 @@ row_goes core ids t rest first r e (i, constant c cs, j, all, h) =
 pub more_ends : (core : Program Var) (r : Bor (List ℕ)) (t rest : List ℕ) → length r.now ≡ 0 → PieceText core (More r) t
     → GoesOn core (41 ∷ []) [] t rest
 more_ends core r t rest e (i, no_constant, j, all, h) = (rest, refl, ap (λ x. x ++ rest) h)
-more_ends core r t rest e (i, constant c cs, j, all, h) = absurd (nothing i all.0 (sym (empty r.now e) ∙ all.2))
+more_ends core r t rest e (i, constant c cs, j, all, h) = absurd (nil-cons i all.0 (sym (empty r.now e) ∙ all.2))
 
 pub more_goes : (core : Program Var) (l : Bor (List ℕ)) (t rest : List ℕ) (first : ℕ) (r : Bor (List ℕ)) → l.now ≡ first ∷ r.now
     → PieceText core (More l) t → GoesOn core (32 ∷ []) (More r ∷ Literal first ∷ []) t rest
-more_goes core l t rest first r e (i, no_constant, j, all, h) = absurd (nothing first r.now (sym all.0 ∙ e))
+more_goes core l t rest first r e (i, no_constant, j, all, h) = absurd (nil-cons first r.now (sym all.0 ∙ e))
 more_goes core l t rest first r e (i, constant c cs, j, all, h) =
     let same = sym all.2 ∙ e in
     let one : Laid core.lits first c all.1 =
@@ -412,35 +403,35 @@ TailText core id l t = DottedText core id t
 
 pub tail_parts : (core : Program Var) (id : ℕ) (l : Lit) (t : List ℕ) → slice_get core.lits id ≡ Some l
     → PieceText core (Tail id) t → TailText core id l t
-tail_parts core id l t got (Number z, j, laid, e) =
-    subst (λ k. TailText core id k t) (same_some (slice_get core.lits id) _ l laid.0 got)
-    (constant_text (Number z), (Number z, j, laid, refl), e)
-tail_parts core id l t got (Truth b, j, laid, e) =
-    subst (λ k. TailText core id k t) (same_some (slice_get core.lits id) _ l laid.0 got)
-    (constant_text (Truth b), (Truth b, j, laid, refl), e)
-tail_parts core id l t got (Letter b, j, laid, e) =
-    subst (λ k. TailText core id k t) (same_some (slice_get core.lits id) _ l laid.0 got)
-    (constant_text (Letter b), (Letter b, j, laid, refl), e)
-tail_parts core id l t got (Empty, j, laid, e) =
-    subst (λ k. TailText core id k t) (same_some (slice_get core.lits id) _ l laid.0 got) e
-tail_parts core id l t got (Unnamed, j, laid, e) =
-    subst (λ k. TailText core id k t) (same_some (slice_get core.lits id) _ l laid.0 got)
-    (constant_text Unnamed, (Unnamed, j, laid, refl), e)
-tail_parts core id l t got (Hole, j, laid, e) =
-    subst (λ k. TailText core id k t) (same_some (slice_get core.lits id) _ l laid.0 got)
-    (constant_text Hole, (Hole, j, laid, refl), e)
-tail_parts core id l t got (Name name, j, laid, e) =
-    subst (λ k. TailText core id k t) (same_some (slice_get core.lits id) _ l laid.0 got)
-    (constant_text (Name name), (Name name, j, laid, refl), e)
-tail_parts core id l t got (Words bytes, j, laid, e) =
-    subst (λ k. TailText core id k t) (same_some (slice_get core.lits id) _ l laid.0 got)
-    (constant_text (Words bytes), (Words bytes, j, laid, refl), e)
-tail_parts core id l t got (Couple a d, j, laid, e) =
-    subst (λ k. TailText core id k t) (same_some (slice_get core.lits id) _ l laid.1 got)
+tail_parts core id l t got (Integer z, j, laid, e) =
+    subst (λ k. TailText core id k t) (same_item (slice_get core.lits id) _ l laid.0 got)
+    (constant_text (Integer z), (Integer z, j, laid, refl), e)
+tail_parts core id l t got (Boolean b, j, laid, e) =
+    subst (λ k. TailText core id k t) (same_item (slice_get core.lits id) _ l laid.0 got)
+    (constant_text (Boolean b), (Boolean b, j, laid, refl), e)
+tail_parts core id l t got (Character b, j, laid, e) =
+    subst (λ k. TailText core id k t) (same_item (slice_get core.lits id) _ l laid.0 got)
+    (constant_text (Character b), (Character b, j, laid, refl), e)
+tail_parts core id l t got (Nil, j, laid, e) =
+    subst (λ k. TailText core id k t) (same_item (slice_get core.lits id) _ l laid.0 got) e
+tail_parts core id l t got (Unspecified, j, laid, e) =
+    subst (λ k. TailText core id k t) (same_item (slice_get core.lits id) _ l laid.0 got)
+    (constant_text Unspecified, (Unspecified, j, laid, refl), e)
+tail_parts core id l t got (Undefined, j, laid, e) =
+    subst (λ k. TailText core id k t) (same_item (slice_get core.lits id) _ l laid.0 got)
+    (constant_text Undefined, (Undefined, j, laid, refl), e)
+tail_parts core id l t got (Symbol name, j, laid, e) =
+    subst (λ k. TailText core id k t) (same_item (slice_get core.lits id) _ l laid.0 got)
+    (constant_text (Symbol name), (Symbol name, j, laid, refl), e)
+tail_parts core id l t got (String bytes, j, laid, e) =
+    subst (λ k. TailText core id k t) (same_item (slice_get core.lits id) _ l laid.0 got)
+    (constant_text (String bytes), (String bytes, j, laid, refl), e)
+tail_parts core id l t got (Pair a d, j, laid, e) =
+    subst (λ k. TailText core id k t) (same_item (slice_get core.lits id) _ l laid.1 got)
     (constant_text a, tail_text d, (a, laid.0, laid.2, refl), (d, j, laid.3, refl), e)
-tail_parts core id l t got (Row cs, j, laid, e) =
-    subst (λ k. TailText core id k t) (same_some (slice_get core.lits id) _ l laid.1 got)
-    (constant_text (Row cs), (Row cs, j, laid, refl), e)
+tail_parts core id l t got (Vector cs, j, laid, e) =
+    subst (λ k. TailText core id k t) (same_item (slice_get core.lits id) _ l laid.1 got)
+    (constant_text (Vector cs), (Vector cs, j, laid, refl), e)
 
 pub tail_read : (core : Program Var) (lits : List Lit) (id : ℕ) (d l : Lit) (t : List ℕ) → lits ≡ core.lits
     → d ≡ get_or lits id d → d ≡ l → PieceText core (Tail id) t → TailText core id l t
@@ -537,7 +528,7 @@ begun core stack form written t one h =
 
 pub one_line : (core : Program Var) (ids others : List ℕ) (first : ℕ) (v : List ℕ) → ids ≡ first ∷ others → LinesText core ids v
     → (u w : List ℕ) × ExprText core first u × LinesText core others w × (v ≡ u ++ 10 ∷ w)
-one_line core ids others first v e (none, s, h) = absurd (nothing first others (sym s ∙ e))
+one_line core ids others first v e (none, s, h) = absurd (nil-cons first others (sym s ∙ e))
 one_line core ids others first v e (item f es, s, h) =
     let same = sym s.2 ∙ e in
     let one : Stands core.exprs first f =
@@ -550,7 +541,7 @@ one_line core ids others first v e (item f es, s, h) =
 
 pub no_line : (core : Program Var) (ids v : List ℕ) → length ids ≡ 0 → LinesText core ids v → v ≡ []
 no_line core ids v e (none, s, h) = h
-no_line core ids v e (item f es, s, h) = absurd (nothing s.0 s.1 (sym (empty ids e) ∙ s.2))
+no_line core ids v e (item f es, s, h) = absurd (nil-cons s.0 s.1 (sym (empty ids e) ∙ s.2))
 
 pub line_after : (core : Program Var) (ids others : List ℕ) (first : ℕ) (before mid now t v : List ℕ) → ids ≡ first ∷ others
     → ((u : List ℕ) → ExprText core first u → mid ≡ before ++ u) → now ≡ mid ++ 10 ∷ []

@@ -12,18 +12,15 @@ use Rattle.scheme_base.specs.declared.env.Env.{Env}
 use Rattle.scheme_base.specs.declared.lit.Lit.{Lit}
 use Rattle.scheme_base.specs.declared.lit.Lit.TheVariants as lit
 use Rattle.scheme_base.specs.declared.op.Op.TheVariants as op
-use Rattle.scheme_base.specs.declared.pos.Pos.{Pos}
-use Rattle.scheme_base.specs.declared.error.ErrKind.TheVariants.{WrongType, Index, Unbound, NotProcedure, Count, Overflow, ZeroDivisor, Undefined}
+use Rattle.scheme_base.specs.declared.error.ErrKind.TheVariants.{WrongType, Index, Unbound, NotProcedure, Count, Overflow, ZeroDivisor, Undefined, LiteralWritten}
 use Rattle.scheme_base.specs.Outside.{Event, ReadByte, ReadEnd, ReadFailed, Wrote}
 use Rattle.scheme_base.specs.Runs.{after}
 use Rattle.scheme_base.specs.Stops.{Stop, End, Error, IoStop}
+use Rattle.scheme_base.proofs.Fixtures.{at, quiet, one_x, first_fails, end_then_x, Seen, seen_after, stops}
 use Rattle.core_form.specs.declared.program.Var.{Var}
 use Rattle.core_form.specs.Trees.{Const, Ref, Lambda, If, Set, Call, Prim, Seq, Fix, Define, Trees, none, item}
-use Rattle.core_form.specs.Source.{State, Stopped, machine, start, trace_of, output}
+use Rattle.core_form.specs.Source.{State, Stopped, machine, start, trace_of}
 use Rattle.core_form.specs.Variables.{named}
-
-abbrev at : ℕ → ℕ → Pos
-at line col = record { line = line; col = col }
 
 -- the program's own variable of this name, and the library's
 abbrev own : List ℕ → Var
@@ -32,34 +29,14 @@ own name = record { name = name; lib = false }
 abbrev lib : List ℕ → Var
 lib name = record { name = name; lib = true }
 
-abbrev quiet : Env
-quiet = record { input = []; failing = []; err_failing = [] }
-
-abbrev one_x : Env
-one_x = record { input = Some 120 ∷ []; failing = []; err_failing = [] }
-
-abbrev first_fails : Env
-first_fails = record { input = Some 120 ∷ []; failing = 1 ∷ []; err_failing = [] }
-
-abbrev end_then_x : Env
-end_then_x = record { input = None ∷ Some 120 ∷ []; failing = []; err_failing = [] }
-
 abbrev stop_of : State Var → Option Stop
 stop_of (Stopped stop w) = Some stop
 stop_of s = None
 
-record Seen : Type 0 where
-  written : List ℕ
-  stop : Option Stop
-
 -- what is seen of a run after so many steps
 abbrev seen : Trees Var → List Lit → Env → ℕ → Seen
 seen forms lits env steps =
-    let run = after (machine (named forms lits) env) steps (start (named forms lits) env) in
-    record { written = output (trace_of run); stop = stop_of run }
-
-abbrev stops : List ℕ → Stop → Seen
-stops written stop = record { written = written; stop = Some stop }
+    seen_after (machine (named forms lits) env) stop_of steps (start (named forms lits) env)
 
 -- (display "hi")(newline)
 abbrev text_forms : Trees Var
@@ -273,6 +250,51 @@ end_is_not_kept_forms =
 
 end_is_not_kept : seen end_is_not_kept_forms (lit.Unspecified ∷ []) end_then_x 20 ≡ stops (codes "x") End
 end_is_not_kept = refl
+
+-- ((call-with-current-continuation (lambda (k) k)) 1 2): a continuation takes one operand
+abbrev continuation_count_forms : Trees Var
+continuation_count_forms =
+    item (Call (at 1 1) (Prim (at 1 2) op.CallCC (item (Lambda (at 1 35) (own (codes "k") ∷ []) None (Ref (at 1 47) (own (codes "k")))) none)) (item (Const (at 1 51) 0) (item (Const (at 1 53) 1) none))) none
+
+continuation_count : seen continuation_count_forms (lit.Integer (pos 1) ∷ lit.Integer (pos 2) ∷ []) quiet 20 ≡ stops [] (Error Count (at 1 1))
+continuation_count = refl
+
+-- Writes to a literal: (set-car! '(1) 2), (string-set! "abc" 9 #\x), (string-set! (symbol->string 'a) 0 #\b);
+-- writes to what the run has made: (vector-set! (make-vector 2 0) 2 0), (string-set! (make-string 1 #\a) 0 #\x)
+
+abbrev literal_pair : Trees Var
+literal_pair = item (Prim (at 1 1) op.SetCar (item (Const (at 1 11) 0) (item (Const (at 1 16) 3) none))) none
+
+written_pair : seen literal_pair (lit.Pair 1 2 ∷ lit.Integer (pos 1) ∷ lit.Nil ∷ lit.Integer (pos 2) ∷ []) quiet 20 ≡ stops [] (Error LiteralWritten (at 1 1))
+written_pair = refl
+
+abbrev literal_string : Trees Var
+literal_string =
+    item (Prim (at 1 1) op.StringSet (item (Const (at 1 14) 0) (item (Const (at 1 20) 1) (item (Const (at 1 22) 2) none)))) none
+
+written_string : seen literal_string (lit.Text (codes "abc") ∷ lit.Integer (pos 9) ∷ lit.Char 120 ∷ []) quiet 20 ≡ stops [] (Error LiteralWritten (at 1 1))
+written_string = refl
+
+abbrev literal_name : Trees Var
+literal_name =
+    item (Prim (at 1 1) op.StringSet (item (Prim (at 1 14) op.SymbolName (item (Const (at 1 31) 0) none)) (item (Const (at 1 35) 1) (item (Const (at 1 37) 2) none)))) none
+
+written_name : seen literal_name (lit.Symbol (codes "a") ∷ lit.Integer (pos 0) ∷ lit.Char 98 ∷ []) quiet 20 ≡ stops [] (Error LiteralWritten (at 1 1))
+written_name = refl
+
+abbrev made_vector : Trees Var
+made_vector =
+    item (Prim (at 1 1) op.VectorSet (item (Prim (at 1 14) op.MakeVector (item (Const (at 1 27) 0) (item (Const (at 1 29) 1) none))) (item (Const (at 1 32) 2) (item (Const (at 1 34) 3) none)))) none
+
+past_vector : seen made_vector (lit.Integer (pos 2) ∷ lit.Integer (pos 0) ∷ lit.Integer (pos 2) ∷ lit.Integer (pos 0) ∷ []) quiet 20 ≡ stops [] (Error Index (at 1 1))
+past_vector = refl
+
+abbrev made_string : Trees Var
+made_string =
+    item (Prim (at 1 1) op.StringSet (item (Prim (at 1 14) op.MakeString (item (Const (at 1 27) 0) (item (Const (at 1 29) 1) none))) (item (Const (at 1 34) 2) (item (Const (at 1 36) 3) none)))) none
+
+written_made : seen made_string (lit.Integer (pos 1) ∷ lit.Char 97 ∷ lit.Integer (pos 0) ∷ lit.Char 120 ∷ []) quiet 20 ≡ stops [] End
+written_made = refl
 
 -- calls with their answers, the newest first
 abbrev calls : Trees Var → List Lit → Env → ℕ → List Event
