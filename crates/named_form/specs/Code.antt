@@ -1,7 +1,8 @@
--- Blocks as linked steps, and how blocks, steps and sites are numbered.
+-- Blocks as linked steps (A-normal form), how blocks, steps and sites are numbered, and which steps are in tail
+-- position.
 --
--- L is what stands beside a step: its place in the text or, in a program that runs, its label.
-use Rattle.std.specs.Prelude.{ℕ, zero, suc, ◌+◌, nat_eq, List, [], ◌∷◌, ◌++◌, length, Option, Some, None, Bool, true, false, not, slice_get, if◌then◌else◌}
+-- L is what stands beside a step: its position in the text or, in a program that runs, its label.
+use Rattle.std.specs.Prelude.{ℕ, zero, suc, ◌+◌, nat_eq, ◌&&◌, List, [], ◌∷◌, ◌++◌, length, Option, Some, None, is_some, Bool, true, false, not, slice_get, if◌then◌else◌}
 use Rattle.std.specs.List.{list_any, filter, flat_map}
 use Rattle.scheme_base.specs.declared.lit.Lit.{Lit}
 use Rattle.scheme_base.specs.declared.op.Op.{Op}
@@ -13,35 +14,36 @@ mutual
     -- the end of the block, with the variable whose value is the block's
     Ends : (value : Option ℕ) → Code L
     -- a step that binds these variables, and the block after it
-    Then : L → (vars : List ℕ) → Deed L → (rest : Code L) → Code L
+    Then : L → (vars : List ℕ) → Act L → (rest : Code L) → Code L
 
-  pub data Deed (L : Type 0) : Type 0 where
-    Const : (lit : ℕ) → Deed L
-    Copy : (from : ℕ) → Deed L
-    Prim : Op → (operands : List ℕ) → Deed L
-    Call : (operator : ℕ) → (operands : List ℕ) → Deed L
-    Apply : (operator list : ℕ) → Deed L
-    CallCC : (operator : ℕ) → Deed L
-    If : (test : ℕ) → (this that : Code L) → Deed L
-    Closure : (proc : ℕ) → Deed L
-    Fix : (procs : List ℕ) → Deed L
-    MakeBox : (from : ℕ) → Deed L
-    MakeHole : Deed L
-    Unbox : (boxed : ℕ) → (checked : Bool) → Deed L
-    SetBox : (boxed from : ℕ) → Deed L
-    TopGet : (top : ℕ) → (checked : Bool) → Deed L
-    TopSet : (top from : ℕ) → (checked : Bool) → Deed L
-    TopDefine : (top from : ℕ) → Deed L
+  pub data Act (L : Type 0) : Type 0 where
+    Const : (lit : ℕ) → Act L
+    Copy : (from : ℕ) → Act L
+    Prim : Op → (operands : List ℕ) → Act L
+    Call : (operator : ℕ) → (operands : List ℕ) → Act L
+    Apply : (operator list : ℕ) → Act L
+    CallCC : (operator : ℕ) → Act L
+    If : (test : ℕ) → (this that : Code L) → Act L
+    Closure : (proc : ℕ) → Act L
+    Fix : (procs : List ℕ) → Act L
+    MakeBox : (from : ℕ) → Act L
+    MakeHole : Act L
+    Unbox : (boxed : ℕ) → (checked : Bool) → Act L
+    SetBox : (boxed from : ℕ) → Act L
+    TopGet : (top : ℕ) → (checked : Bool) → Act L
+    TopSet : (top from : ℕ) → (checked : Bool) → Act L
+    TopDefine : (top from : ℕ) → Act L
 
--- a procedure as it is written
+-- a procedure as it is written, with the position of its lambda expression
 pub record Written : Type 0 where
   pub params : List ℕ
   pub rest : Option ℕ
   pub body : Code Pos
+  pub pos : Pos
 
 -- Numbers
 
--- how many steps, sites and blocks stand before a place of the program
+-- how many steps, sites and blocks stand before a step of the program
 pub record Counts : Type 0 where
   pub steps : ℕ
   pub sites : ℕ
@@ -56,33 +58,52 @@ makes op.MakeSymbol = true
 makes o = false
 
 -- how many sites a step is
-abbrev pub sites_of : {L : Type 0} → Deed L → ℕ
+abbrev pub sites_of : {L : Type 0} → Act L → ℕ
 sites_of (Prim o operands) = if makes o then 1 else 0
 sites_of (MakeBox from) = 1
 sites_of MakeHole = 1
 sites_of (CallCC operator) = 1
-sites_of deed = 0
+sites_of act = 0
 
 -- how many arms a step has
-abbrev pub arms_of : {L : Type 0} → Deed L → ℕ
+abbrev pub arms_of : {L : Type 0} → Act L → ℕ
 arms_of (If test this that) = 2
-arms_of deed = 0
+arms_of act = 0
 
 -- past a step itself, before its arms
-abbrev pub past : {L : Type 0} → Counts → Deed L → Counts
-past at deed =
-    record { steps = suc at.steps; sites = at.sites + sites_of deed; blocks = at.blocks + arms_of deed }
+abbrev pub past : {L : Type 0} → Counts → Act L → Counts
+past at act =
+    record { steps = suc at.steps; sites = at.sites + sites_of act; blocks = at.blocks + arms_of act }
 
 abbrev mutual
   -- Steps are numbered as they stand, those of both arms after their `If` and before the steps that follow it.
   -- The two arms of an `If` have two blocks' numbers, before all blocks in them.
   pub past_code : {L : Type 0} → Counts → Code L → Counts
   past_code at (Ends value) = at
-  past_code at (Then l vars deed rest) = past_code (past_arms (past at deed) deed) rest
+  past_code at (Then l vars act rest) = past_code (past_arms (past at act) act) rest
 
-  pub past_arms : {L : Type 0} → Counts → Deed L → Counts
+  pub past_arms : {L : Type 0} → Counts → Act L → Counts
   past_arms at (If test this that) = past_code (past_code at this) that
-  past_arms at deed = at
+  past_arms at act = at
+
+-- Tail position
+
+-- the one variable that a step other than a `Fix` binds
+abbrev pub single : List ℕ → ℕ
+single [] = 0
+single (x ∷ xs) = x
+
+-- whether a block is at its end, and its value is that of the first of these variables
+abbrev pub ends_with : {L : Type 0} → Code L → (vars : List ℕ) → Bool
+ends_with (Ends (Some y)) (x ∷ xs) = nat_eq x y
+ends_with code vars = false
+
+-- In a block in tail position the step is in tail position that is the last and gives the block's value; its
+-- arms are then blocks in tail position. A tail call is a call in tail position.
+abbrev pub in_tail : {L : Type 0} → (tail : Bool) → (rest : Code L) → (vars : List ℕ) → Bool
+in_tail tail rest vars = tail && ends_with rest vars
+
+-- Labels
 
 -- what a step of a program that runs is known by
 pub record Label : Type 0 where
@@ -93,31 +114,44 @@ pub record Label : Type 0 where
   pub site : ℕ
   -- the number of its first arm, if it has arms; the second arm has the next
   pub arm : ℕ
+  -- whether it is in tail position
+  pub tail : Bool
 
 abbrev mutual
-  pub labelled : Counts → Code Pos → Code Label
-  labelled at (Ends value) = Ends value
-  labelled at (Then place vars deed rest) =
-      Then (record { place = place; step = at.steps; site = at.sites; arm = at.blocks }) vars
-      (labelled_deed (past at deed) deed) (labelled (past_arms (past at deed) deed) rest)
+  -- a block, in tail position or not
+  pub labelled : Counts → (tail : Bool) → Code Pos → Code Label
+  labelled at tail (Ends value) = Ends value
+  labelled at tail (Then pos vars act rest) =
+      Then
+      (record {
+        place = pos;
+        step = at.steps;
+        site = at.sites;
+        arm = at.blocks;
+        tail = in_tail tail rest vars;
+      })
+      vars
+      (labelled_act (past at act) (in_tail tail rest vars) act)
+      (labelled (past_arms (past at act) act) tail rest)
 
-  pub labelled_deed : Counts → Deed Pos → Deed Label
-  labelled_deed at (If test this that) = If test (labelled at this) (labelled (past_code at this) that)
-  labelled_deed at (Const lit) = Const lit
-  labelled_deed at (Copy from) = Copy from
-  labelled_deed at (Prim o operands) = Prim o operands
-  labelled_deed at (Call operator operands) = Call operator operands
-  labelled_deed at (Apply operator list) = Apply operator list
-  labelled_deed at (CallCC operator) = CallCC operator
-  labelled_deed at (Closure proc) = Closure proc
-  labelled_deed at (Fix procs) = Fix procs
-  labelled_deed at (MakeBox from) = MakeBox from
-  labelled_deed at MakeHole = MakeHole
-  labelled_deed at (Unbox boxed checked) = Unbox boxed checked
-  labelled_deed at (SetBox boxed from) = SetBox boxed from
-  labelled_deed at (TopGet top checked) = TopGet top checked
-  labelled_deed at (TopSet top from checked) = TopSet top from checked
-  labelled_deed at (TopDefine top from) = TopDefine top from
+  pub labelled_act : Counts → (tail : Bool) → Act Pos → Act Label
+  labelled_act at tail (If test this that) =
+      If test (labelled at tail this) (labelled (past_code at this) tail that)
+  labelled_act at tail (Const lit) = Const lit
+  labelled_act at tail (Copy from) = Copy from
+  labelled_act at tail (Prim o operands) = Prim o operands
+  labelled_act at tail (Call operator operands) = Call operator operands
+  labelled_act at tail (Apply operator list) = Apply operator list
+  labelled_act at tail (CallCC operator) = CallCC operator
+  labelled_act at tail (Closure proc) = Closure proc
+  labelled_act at tail (Fix procs) = Fix procs
+  labelled_act at tail (MakeBox from) = MakeBox from
+  labelled_act at tail MakeHole = MakeHole
+  labelled_act at tail (Unbox boxed checked) = Unbox boxed checked
+  labelled_act at tail (SetBox boxed from) = SetBox boxed from
+  labelled_act at tail (TopGet top checked) = TopGet top checked
+  labelled_act at tail (TopSet top from checked) = TopSet top from checked
+  labelled_act at tail (TopDefine top from) = TopDefine top from
 
 -- Variables
 
@@ -125,7 +159,7 @@ abbrev pub has : List ℕ → ℕ → Bool
 has xs x = list_any (nat_eq x) xs
 
 -- the variables that a step reads itself
-abbrev pub reads : {L : Type 0} → Deed L → List ℕ
+abbrev pub reads : {L : Type 0} → Act L → List ℕ
 reads (Copy from) = from ∷ []
 reads (Prim o operands) = operands
 reads (Call operator operands) = operator ∷ operands
@@ -137,47 +171,51 @@ reads (Unbox boxed checked) = boxed ∷ []
 reads (SetBox boxed from) = boxed ∷ from ∷ []
 reads (TopSet top from checked) = from ∷ []
 reads (TopDefine top from) = from ∷ []
-reads deed = []
+reads act = []
 
 abbrev pub option_list : Option ℕ → List ℕ
 option_list None = []
 option_list (Some x) = x ∷ []
 
 -- the procedures of which a step makes closures
-abbrev pub closes : {L : Type 0} → Deed L → List ℕ
+abbrev pub closes : {L : Type 0} → Act L → List ℕ
 closes (Closure proc) = proc ∷ []
 closes (Fix procs) = procs
-closes deed = []
+closes act = []
 
 abbrev mutual
   -- the variables that a block binds, its arms among it, in their order
   pub binds : {L : Type 0} → Code L → List ℕ
   binds (Ends value) = []
-  binds (Then l vars deed rest) = vars ++ (arms_bind deed ++ binds rest)
+  binds (Then l vars act rest) = vars ++ (arms_bind act ++ binds rest)
 
-  pub arms_bind : {L : Type 0} → Deed L → List ℕ
+  pub arms_bind : {L : Type 0} → Act L → List ℕ
   arms_bind (If test this that) = binds this ++ binds that
-  arms_bind deed = []
+  arms_bind act = []
 
 abbrev mutual
   -- the variables that a block reads, its arms among it
   pub reads_in : {L : Type 0} → Code L → List ℕ
   reads_in (Ends value) = option_list value
-  reads_in (Then l vars deed rest) = reads deed ++ (arms_read deed ++ reads_in rest)
+  reads_in (Then l vars act rest) = reads act ++ (arms_read act ++ reads_in rest)
 
-  pub arms_read : {L : Type 0} → Deed L → List ℕ
+  pub arms_read : {L : Type 0} → Act L → List ℕ
   arms_read (If test this that) = reads_in this ++ reads_in that
-  arms_read deed = []
+  arms_read act = []
 
 abbrev mutual
   -- the procedures of which a block makes closures
   pub closes_in : {L : Type 0} → Code L → List ℕ
   closes_in (Ends value) = []
-  closes_in (Then l vars deed rest) = closes deed ++ (arms_close deed ++ closes_in rest)
+  closes_in (Then l vars act rest) = closes act ++ (arms_close act ++ closes_in rest)
 
-  pub arms_close : {L : Type 0} → Deed L → List ℕ
+  pub arms_close : {L : Type 0} → Act L → List ℕ
   arms_close (If test this that) = closes_in this ++ closes_in that
-  arms_close deed = []
+  arms_close act = []
+
+-- what a step needs: what it reads, and what is free in the procedures of which it makes closures
+abbrev pub needs : {L : Type 0} → (free : ℕ → List ℕ) → Act L → List ℕ
+needs free act = reads act ++ flat_map free (closes act)
 
 -- all that a procedure binds: its parameters, its rest parameter, and what its body binds
 abbrev pub bound_in : Written → List ℕ
@@ -189,7 +227,7 @@ once [] = []
 once (x ∷ xs) = x ∷ filter (λ y. not (nat_eq x y)) (once xs)
 
 abbrev pub written_at : Option Written → Written
-written_at None = record { params = []; rest = None; body = Ends None }
+written_at None = record { params = []; rest = None; body = Ends None; pos = record { line = 0; col = 0 } }
 written_at (Some p) = p
 
 -- The free variables of a procedure: those that it reads, or that are free in a procedure of which it makes
@@ -199,6 +237,22 @@ free_in zero ps q = []
 free_in (suc deep) ps q =
     let p = written_at (slice_get ps q) in
     filter (λ x. not (has (bound_in p) x)) (once (reads_in p.body ++ flat_map (free_in deep ps) (closes_in p.body)))
+
+-- Calls
+
+-- the variable whose value a call calls
+abbrev pub operator_of : {L : Type 0} → Act L → Option ℕ
+operator_of (Call f ys) = Some f
+operator_of (Apply f y) = Some f
+operator_of (CallCC f) = Some f
+operator_of act = None
+
+abbrev pub is_call : {L : Type 0} → Act L → Bool
+is_call act = is_some (operator_of act)
+
+abbrev pub is_callcc : {L : Type 0} → Act L → Bool
+is_callcc (CallCC f) = true
+is_callcc act = false
 
 -- Programs that run
 
@@ -228,7 +282,7 @@ procedures all q list_site at (p ∷ ps) =
     record {
       params = p.params;
       rest = p.rest;
-      body = labelled inside p.body;
+      body = labelled inside true p.body;
       block = at.blocks;
       list_site = list_site;
       free = free_in (length all) all q;

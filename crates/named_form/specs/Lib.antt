@@ -1,7 +1,10 @@
 pub mod Code
 pub mod Laws
+pub mod Needs
 pub mod NamedRun
+pub mod PlainPlan
 pub mod Storage
+pub mod Tallies
 pub mod Valid
 pub mod ValidPlan
 pub mod Written

@@ -7,7 +7,7 @@
 --
 -- A call is one step, with its return point, its rest list and the continuation that it takes; so is a
 -- return, with the variable that it binds.
-use Rattle.std.specs.Prelude.{ℕ, suc, nat_eq, ◌&&◌, List, [], ◌∷◌, ◌++◌, length, map, take, drop, slice_get, slice_set, Option, Some, None, is_some, Bool, true, false}
+use Rattle.std.specs.Prelude.{ℕ, suc, nat_eq, List, [], ◌∷◌, ◌++◌, length, map, take, drop, slice_get, slice_set, Option, Some, None, is_some, Bool, true, false}
 use Rattle.std.specs.Map.{lookup}
 use Rattle.scheme_base.specs.declared.env.Env.{Env}
 use Rattle.scheme_base.specs.declared.pos.Pos.{Pos}
@@ -15,13 +15,13 @@ use Rattle.scheme_base.specs.declared.op.Op.{Op}
 use Rattle.scheme_base.specs.declared.op.Op.TheVariants as op
 use Rattle.scheme_base.specs.declared.error.ErrKind.{ErrKind}
 use Rattle.scheme_base.specs.declared.error.ErrKind.TheVariants as kind
-use Rattle.scheme_base.specs.Outside.{Event, Wrote, Ending}
+use Rattle.scheme_base.specs.Outside.{Event, Ending}
 use Rattle.scheme_base.specs.Runs.{Machine}
-use Rattle.scheme_base.specs.Values.{Value, False, Unspecified, Undefined, Object, Box, Thing, Datum, Procedure, ByRun}
+use Rattle.scheme_base.specs.Values.{Value, Unspecified, Undefined, Object, Box, Thing, Holding, Procedure, ByRun, chosen}
 use Rattle.scheme_base.specs.Literals.{literal, literal_objects}
 use Rattle.scheme_base.specs.Operations.{Channels, no_channels, Outcome, Answers, Makes, Changes, Passes, Applies, Captures, Fails, Breaks, Store, operate, sight, plain_seen, plain_change, entries_after, list_value, list_contents, number_of, takes, item_or}
 use Rattle.scheme_base.specs.Stops.{Stop, End, Error, IoStop, told}
-use Rattle.named_form.specs.Code.{Code, Ends, Then, Deed, Const, Copy, Prim, Call, Apply, CallCC, If, Closure, Fix, MakeBox, MakeHole, Unbox, SetBox, TopGet, TopSet, TopDefine, Label, Program, Lambda, closure_site}
+use Rattle.named_form.specs.Code.{Code, Ends, Then, Act, Const, Copy, Prim, Call, Apply, CallCC, If, Closure, Fix, MakeBox, MakeHole, Unbox, SetBox, TopGet, TopSet, TopDefine, Label, Program, Lambda, closure_site, single}
 
 -- the values of variables, the newest first
 abbrev pub Vars : Type 0
@@ -111,11 +111,6 @@ abbrev pub keep : List ℕ → Vars → Vars
 keep [] vars = []
 keep (x ∷ xs) vars = (x, value_of vars x) ∷ keep xs vars
 
--- the one variable that a step other than a `Fix` binds
-abbrev pub single : List ℕ → ℕ
-single [] = 0
-single (x ∷ xs) = x
-
 abbrev pub with_vars : Activation → Vars → Activation
 with_vars a vars = record a { vars = vars }
 
@@ -150,7 +145,7 @@ with_entry e w = record w { entries = w.entries ++ e ∷ [] }
 abbrev pub with_list : Maker → List Value → World → World
 with_list maker vs w =
     record w {
-      entries = w.entries ++ map (λ c. entry maker (Datum ByRun c)) (list_contents (length w.entries) vs);
+      entries = w.entries ++ map (λ c. entry maker (Holding ByRun c)) (list_contents (length w.entries) vs);
     }
 
 abbrev pub with_box : Maker → Value → World → World
@@ -161,24 +156,9 @@ abbrev pub store : Maker → Store Entry
 store maker =
     record {
       seen = λ e. plain_seen e.thing;
-      enter = λ c. entry maker (Datum ByRun c);
+      enter = λ c. entry maker (Holding ByRun c);
       change = λ c e. record e { thing = plain_change c e.thing };
     }
-
--- Tail calls
-
-abbrev pub ends_with : Code Label → (var : ℕ) → Bool
-ends_with (Ends (Some y)) x = nat_eq x y
-ends_with code x = false
-
--- the value of each arm is the value of the block around it
-abbrev pub all_end : List Open → Bool
-all_end [] = true
-all_end (a ∷ arms) = ends_with a.rest a.var && all_end arms
-
--- A tail call is the last step of its block, in tail position, and its variable is the block's value.
-abbrev pub is_tail : (rest : Code Label) → (var : ℕ) → List Open → Bool
-is_tail rest x arms = ends_with rest x && all_end arms
 
 -- Calls
 
@@ -199,13 +179,6 @@ leave false p place w s =
       before = s;
       place = place;
     }
-
--- the call of a step that binds this variable
-abbrev pub leaving : (var : ℕ) → (rest : Code Label) → Pos → World → State → Leaving
-leaving x rest place w s =
-    leave (is_tail rest x s.now.arms)
-    (record { var = x; rest = rest; arms = s.now.arms; activation = s.now.activation })
-    place w s
 
 -- an activation begins in the body of a procedure
 abbrev pub begin : Lambda → (proc : ℕ) → (closure : ℕ) → Vars → List Point → World → State
@@ -265,7 +238,7 @@ resume points (v ∷ []) c = return points v c.world c.before
 resume points vs c = fails kind.Count c.place c.before
 
 abbrev pub call_thing : Program → Thing Callee → (callee : ℕ) → List Value → Leaving → State
-call_thing p (Datum o d) f vs c = fails kind.NotProcedure c.place c.before
+call_thing p (Holding o d) f vs c = fails kind.NotProcedure c.place c.before
 call_thing p (Procedure (Closes q kept)) f vs c = enter_closure (slice_get p.procs q) q f kept vs c
 call_thing p (Procedure (Continues points)) f vs c = resume points vs c
 
@@ -282,8 +255,8 @@ call p f vs c = call_of p (entry_at c.world f) (number_of f) vs c
 
 -- Steps
 
--- a step on its way: its label, the variable that it binds, and the block after it
-pub record Place : Type 0 where
+-- the step that runs: its label, the variable that it binds, and the block after it
+pub record Current : Type 0 where
   pub label : Label
   pub var : ℕ
   pub rest : Code Label
@@ -291,8 +264,11 @@ pub record Place : Type 0 where
 abbrev pub maker : Label → State → Maker
 maker l s = record { site = l.site; activation = s.now.activation.number }
 
-abbrev pub leaves : Place → State → Leaving
-leaves at s = leaving at.var at.rest at.label.place s.world s
+abbrev pub leaves : Current → State → Leaving
+leaves at s =
+    leave at.label.tail
+    (record { var = at.var; rest = at.rest; arms = s.now.arms; activation = s.now.activation })
+    at.label.place s.world s
 
 -- the call has this continuation as its one operand
 abbrev pub capture : Program → (procedure : Value) → Maker → Leaving → State
@@ -303,7 +279,7 @@ capture p f m c =
 abbrev pub with_outcome : Maker → Outcome → World → World
 with_outcome m outcome w = record w { entries = entries_after (store m) w.entries outcome }
 
-abbrev pub carry : Program → Outcome → Place → State → State
+abbrev pub carry : Program → Outcome → Current → State → State
 carry p (Answers v) at s = gives at.var v at.rest s.world s
 carry p (Makes c) at s = gives at.var (next s.world) at.rest (with_outcome (maker at.label s) (Makes c) s.world) s
 carry p (Changes n c) at s = gives at.var Unspecified at.rest (with_outcome (maker at.label s) (Changes n c) s.world) s
@@ -313,16 +289,11 @@ carry p (Captures f) at s = capture p f (maker at.label s) (leaves at s)
 carry p (Fails k) at s = fails k at.label.place s
 carry p (Breaks channels) at s = stopped IoStop (record s { world = record s.world { channels = channels } })
 
-abbrev pub perform : Program → Env → Op → List Value → Place → State → State
+abbrev pub perform : Program → Env → Op → List Value → Current → State → State
 perform p env o vs at s =
     carry p (operate env (sight (store (maker at.label s)) s.world.entries) s.world.channels o vs) at s
 
--- only #f is false (R4RS 6.1)
-abbrev pub chosen : {A : Type 0} → Value → (this that : A) → A
-chosen False this that = that
-chosen v this that = this
-
-abbrev pub open_arm : Place → Code Label → State → State
+abbrev pub open_arm : Current → Code Label → State → State
 open_arm at block s =
     record s { now = record s.now { block = block; arms = record { var = at.var; rest = at.rest } ∷ s.now.arms } }
 
@@ -355,7 +326,7 @@ fix p xs qs rest s =
     (record w { entries = w.entries ++ closures p qs a.number (bind_all xs vs a.vars) })
     s
 
-abbrev pub make_box : Value → Place → State → State
+abbrev pub make_box : Value → Current → State → State
 make_box v at s =
     gives at.var (Box (length s.world.boxes)) at.rest (with_box (maker at.label s) v s.world) s
 
@@ -367,7 +338,7 @@ abbrev pub box_at : World → Value → Option Boxed
 box_at w (Box n) = slice_get w.boxes n
 box_at w v = None
 
-abbrev pub unbox : Value → Place → State → State
+abbrev pub unbox : Value → Current → State → State
 unbox Undefined at s = fails kind.Undefined at.label.place s
 unbox v at s = gives at.var v at.rest s.world s
 
@@ -382,38 +353,38 @@ box_number v = 0
 abbrev pub with_top : (top : ℕ) → Value → World → World
 with_top g v w = record w { tops = (g, v) ∷ w.tops }
 
-abbrev pub top_get : Option Value → Place → State → State
+abbrev pub top_get : Option Value → Current → State → State
 top_get None at s = fails kind.Unbound at.label.place s
 top_get (Some v) at s = gives at.var v at.rest s.world s
 
-abbrev pub top_set : Option Value → (top : ℕ) → Value → Place → State → State
+abbrev pub top_set : Option Value → (top : ℕ) → Value → Current → State → State
 top_set None g v at s = fails kind.Unbound at.label.place s
 top_set (Some old) g v at s = gives at.var Unspecified at.rest (with_top g v s.world) s
 
-abbrev pub act : Program → Env → Deed Label → (vars : List ℕ) → Place → State → State
-act p env (Const lit) xs at s = gives at.var (literal p.lits lit) at.rest s.world s
-act p env (Copy y) xs at s = gives at.var (value_of s.now.activation.vars y) at.rest s.world s
-act p env (Prim o ys) xs at s = perform p env o (values_of s.now.activation.vars ys) at s
-act p env (Call f ys) xs at s =
+abbrev pub run_act : Program → Env → Act Label → (vars : List ℕ) → Current → State → State
+run_act p env (Const lit) xs at s = gives at.var (literal p.lits lit) at.rest s.world s
+run_act p env (Copy y) xs at s = gives at.var (value_of s.now.activation.vars y) at.rest s.world s
+run_act p env (Prim o ys) xs at s = perform p env o (values_of s.now.activation.vars ys) at s
+run_act p env (Call f ys) xs at s =
     call p (value_of s.now.activation.vars f) (values_of s.now.activation.vars ys) (leaves at s)
-act p env (Apply f y) xs at s = perform p env op.Apply (values_of s.now.activation.vars (f ∷ y ∷ [])) at s
-act p env (CallCC f) xs at s = perform p env op.CallCC (values_of s.now.activation.vars (f ∷ [])) at s
-act p env (If t this that) xs at s = open_arm at (chosen (value_of s.now.activation.vars t) this that) s
-act p env (Closure q) xs at s =
+run_act p env (Apply f y) xs at s = perform p env op.Apply (values_of s.now.activation.vars (f ∷ y ∷ [])) at s
+run_act p env (CallCC f) xs at s = perform p env op.CallCC (values_of s.now.activation.vars (f ∷ [])) at s
+run_act p env (If t this that) xs at s = open_arm at (chosen (value_of s.now.activation.vars t) this that) s
+run_act p env (Closure q) xs at s =
     gives at.var (next s.world) at.rest
     (with_entry (closure p q s.now.activation.number s.now.activation.vars) s.world) s
-act p env (Fix qs) xs at s = fix p xs qs at.rest s
-act p env (MakeBox y) xs at s = make_box (value_of s.now.activation.vars y) at s
-act p env MakeHole xs at s = make_box Undefined at s
-act p env (Unbox b checked) xs at s = unbox (content (box_at s.world (value_of s.now.activation.vars b))) at s
-act p env (SetBox b y) xs at s =
+run_act p env (Fix qs) xs at s = fix p xs qs at.rest s
+run_act p env (MakeBox y) xs at s = make_box (value_of s.now.activation.vars y) at s
+run_act p env MakeHole xs at s = make_box Undefined at s
+run_act p env (Unbox b checked) xs at s = unbox (content (box_at s.world (value_of s.now.activation.vars b))) at s
+run_act p env (SetBox b y) xs at s =
     let box = value_of s.now.activation.vars b in
     gives at.var Unspecified at.rest
     (with_content (box_at s.world box) (box_number box) (value_of s.now.activation.vars y) s.world) s
-act p env (TopGet g checked) xs at s = top_get (lookup (nat_eq g) s.world.tops) at s
-act p env (TopSet g y checked) xs at s =
+run_act p env (TopGet g checked) xs at s = top_get (lookup (nat_eq g) s.world.tops) at s
+run_act p env (TopSet g y checked) xs at s =
     top_set (lookup (nat_eq g) s.world.tops) g (value_of s.now.activation.vars y) at s
-act p env (TopDefine g y) xs at s =
+run_act p env (TopDefine g y) xs at s =
     gives at.var Unspecified at.rest (with_top g (value_of s.now.activation.vars y) s.world) s
 
 abbrev pub option_value : Vars → Option ℕ → Value
@@ -427,7 +398,7 @@ finish v (a ∷ arms) s = gives a.var v a.rest s.world (record s { now = record 
 
 abbrev pub go : Program → Env → Code Label → State → State
 go p env (Ends x) s = finish (option_value s.now.activation.vars x) s.now.arms s
-go p env (Then l xs deed rest) s = act p env deed xs (record { label = l; var = single xs; rest = rest }) s
+go p env (Then l xs act rest) s = run_act p env act xs (record { label = l; var = single xs; rest = rest }) s
 
 -- The machine
 
@@ -477,9 +448,3 @@ start p env =
             channels = no_channels env;
           };
     }
-
--- what was written: the bytes of the writes that succeeded, the oldest first
-abbrev pub output : List Event → List ℕ
-output [] = []
-output (Wrote byte ∷ es) = output es ++ byte ∷ []
-output (e ∷ es) = output es

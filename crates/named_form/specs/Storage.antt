@@ -1,14 +1,14 @@
 -- Open storage: how many bytes of the heap a state of a run holds under a plan.
 --
--- A frame has a return address, a link, the closure, and each parameter and variable of its procedure that
--- needs a place there. Local objects end with the activation that makes them, global ones stay. A return
+-- A frame has a return address, a link, the closure, and a slot for each parameter and variable of its
+-- procedure that needs one. Local objects end with the activation that makes them, global ones stay. A return
 -- point of a call in record mode has its frame in a record, which stays, and no frame of its own.
 use Rattle.std.specs.Prelude.{ℕ, suc, ◌+◌, ◌*◌, nat_eq, ◌&&◌, ◌||◌, List, [], ◌∷◌, length, map, slice_get, Option, Some, None, Bool, true, false, not, if◌then◌else◌}
 use Rattle.std.specs.List.{list_any, filter, sum_by}
 use Rattle.scheme_base.specs.declared.place.Mark.{Mark}
 use Rattle.scheme_base.specs.declared.place.Mark.TheVariants as mark
 use Rattle.scheme_base.specs.Operations.{item_or}
-use Rattle.scheme_base.specs.Values.{Content, Pair, Text, Vector, Symbol, Blank, Thing, Datum, Procedure}
+use Rattle.scheme_base.specs.Values.{Content, Pair, String, Vector, Symbol, Blank, Thing, Holding, Procedure}
 use Rattle.named_form.specs.declared.plan.Plan.{Plan}
 use Rattle.named_form.specs.Code.{Program, Lambda, has}
 use Rattle.named_form.specs.NamedRun.{Point, Callee, Closes, Continues, Maker, Entry, Boxed, State}
@@ -51,11 +51,13 @@ abbrev pub bound : Option Lambda → List ℕ
 bound None = []
 bound (Some p) = p.bound
 
--- how many words a frame has beside its return address and its link: the closure and each variable that has
--- a place there
+-- the variables of a procedure that have slots in its frames
+abbrev pub frame_vars : Plan → Program → (proc : ℕ) → List ℕ
+frame_vars plan p q = filter (λ x. not (is_fictitious plan x || is_global plan x)) (bound (slice_get p.procs q))
+
+-- how many words a frame has beside its return address and its link: the closure and the slots
 abbrev pub frame_slots : Plan → Program → (proc : ℕ) → ℕ
-frame_slots plan p q =
-    suc (length (filter (λ x. not (is_fictitious plan x || is_global plan x)) (bound (slice_get p.procs q))))
+frame_slots plan p q = suc (length (frame_vars plan p q))
 
 abbrev pub frame_bytes : Plan → Program → (proc : ℕ) → ℕ
 frame_bytes plan p q = 8 * (2 + frame_slots plan p q)
@@ -64,13 +66,13 @@ frame_bytes plan p q = 8 * (2 + frame_slots plan p q)
 
 abbrev pub content_bytes : Content → ℕ
 content_bytes (Pair a d) = 16
-content_bytes (Text chars) = 8 * (1 + length chars)
+content_bytes (String chars) = 8 * (1 + length chars)
 content_bytes (Vector items) = 8 * (1 + length items)
 content_bytes (Symbol name) = 16
 content_bytes Blank = 0
 
 abbrev pub thing_bytes : Plan → Thing Callee → ℕ
-thing_bytes plan (Datum o c) = content_bytes c
+thing_bytes plan (Holding o c) = content_bytes c
 thing_bytes plan (Procedure (Closes q kept)) =
     if is_static plan q then 0 else 8 * (1 + length (keeps plan q))
 thing_bytes plan (Procedure (Continues points)) = 16

@@ -1,6 +1,6 @@
 -- Valid plans: what must hold in each state of each run, part by part.
 use Rattle.std.specs.Prelude.{ℕ, zero, suc, nat_eq, nat_lt, ◌≡◌, ◌↔◌, ◌&&◌, ◌||◌, List, [], ◌∷◌, ◌++◌, length, map, drop, slice_get, Option, Some, None, is_some, Bool, true, false, not, if◌then◌else◌, IsTrue}
-use Rattle.std.specs.List.{list_any, list_all, flat_map}
+use Rattle.std.specs.List.{list_any, list_all, filter, flat_map}
 use Rattle.scheme_base.specs.declared.env.Env.{Env}
 use Rattle.scheme_base.specs.declared.op.Op.TheVariants as op
 use Rattle.scheme_base.specs.declared.place.Mark.{Mark}
@@ -8,19 +8,20 @@ use Rattle.scheme_base.specs.declared.place.Mark.TheVariants as mark
 use Rattle.scheme_base.specs.declared.place.Stated.{Stated}
 use Rattle.scheme_base.specs.declared.place.Stated.TheVariants as stated
 use Rattle.scheme_base.specs.Operands.{operands_of}
-use Rattle.scheme_base.specs.Operations.{Sight, all_fit, is_integer, item_or, same, sight, link_at, Link, Ended, Further, Broken, takes}
+use Rattle.scheme_base.specs.Operations.{Sight, all_fit, is_integer, item_or, same, sight, link_at, items_at, Link, Ended, Further, Broken, takes}
 use Rattle.scheme_base.specs.Laws.{values_in}
 use Rattle.scheme_base.specs.Runs.{after}
-use Rattle.scheme_base.specs.Values.{Value, Object, Box, Content, Thing, Datum, Procedure, truth}
+use Rattle.scheme_base.specs.Stops.{Stop, Error}
+use Rattle.scheme_base.specs.Values.{Value, Object, Box, Content, Thing, Holding, Procedure, chosen, truth}
 use Rattle.scheme_base.specs.Values as value
 use Rattle.named_form.specs.declared.plan.Plan.{Plan}
 use Rattle.named_form.specs.declared.plan.Fiction.{Fiction}
 use Rattle.named_form.specs.declared.plan.Repr.{Repr}
 use Rattle.named_form.specs.declared.plan.Repr.TheVariants as repr
 use Rattle.named_form.specs.declared.plan.StepUse.{StepUse}
-use Rattle.named_form.specs.Code.{Code, Ends, Then, Deed, Prim, Call, Apply, CallCC, If, Label, Program, Lambda, Written, bound_in, totals, has, reads, closes, option_list}
-use Rattle.named_form.specs.NamedRun.{Vars, Activation, Callee, Closes, Continues, Maker, Entry, Boxed, State, value_of, values_of, chosen, entry_at, is_tail, single, store, machine, start, step}
-use Rattle.named_form.specs.Storage.{captures, records, is_fictitious, is_global, keeps, is_compared, is_static, mark_of, bound, live, is_held}
+use Rattle.named_form.specs.Code.{Code, Ends, Then, Act, Prim, Call, Apply, CallCC, If, Label, Program, Lambda, Written, bound_in, totals, has, needs, option_list, single, operator_of, is_call, is_callcc}
+use Rattle.named_form.specs.NamedRun.{Vars, Activation, Callee, Closes, Continues, Maker, Entry, Boxed, State, value_of, values_of, entry_at, store, machine, start, step}
+use Rattle.named_form.specs.Storage.{captures, records, is_fictitious, is_global, keeps, is_compared, is_static, mark_of, bound, frame_vars, live, is_held}
 
 -- A state and the plan that is looked at
 
@@ -41,11 +42,11 @@ vars a = a.state.now.activation.vars
 
 -- what is asked of the step that is next, in a state that goes on
 abbrev pub OfNext : Type 0
-OfNext = Label → (var : ℕ) → Deed Label → (tail : Bool) → Bool
+OfNext = Label → (var : ℕ) → Act Label → Bool
 
-abbrev pub of_block : OfNext → (ends : Option ℕ → Bool) → At → Code Label → Bool
-of_block test ends a (Ends x) = ends x
-of_block test ends a (Then l xs deed rest) = test l (single xs) deed (is_tail rest (single xs) a.state.now.arms)
+abbrev pub of_block : OfNext → (ends : Option ℕ → Bool) → Code Label → Bool
+of_block test ends (Ends x) = ends x
+of_block test ends (Then l xs act rest) = test l (single xs) act
 
 abbrev pub of_running : Bool → Bool → Bool
 of_running true b = true
@@ -53,7 +54,7 @@ of_running false b = b
 
 -- a test of the step that is next, or of the value of the block that ends next
 abbrev pub on_next : OfNext → (ends : Option ℕ → Bool) → At → Bool
-on_next test ends a = of_running (is_some a.state.stop) (of_block test ends a a.state.now.block)
+on_next test ends a = of_running (is_some a.state.stop) (of_block test ends a.state.now.block)
 
 -- (a) Nothing runs that the plan calls unreached.
 
@@ -63,9 +64,9 @@ use_of plan n = item_or (record { reached = false; checked = false }) (slice_get
 abbrev pub block_reached : Plan → (block : ℕ) → Bool
 block_reached plan b = item_or false (slice_get plan.reprs.blocks b)
 
-abbrev pub arm_reached : At → Label → Deed Label → Bool
+abbrev pub arm_reached : At → Label → Act Label → Bool
 arm_reached a l (If t this that) = block_reached a.plan (chosen (value_of (vars a) t) l.arm (suc l.arm))
-arm_reached a l deed = true
+arm_reached a l act = true
 
 abbrev pub body_reached : Plan → Option Lambda → Bool
 body_reached plan None = true
@@ -78,10 +79,10 @@ enters a = nat_lt a.state.world.started a.next.world.started
 -- the step and the block that it begins, an arm or a body, are reached
 abbrev pub reached : At → Bool
 reached a =
-    on_next (λ l x deed tail. (use_of a.plan l.step).reached && arm_reached a l deed) (λ x. true) a
+    on_next (λ l x act. (use_of a.plan l.step).reached && arm_reached a l act) (λ x. true) a
     && (not (enters a) || body_reached a.plan (slice_get a.program.procs a.next.now.activation.proc))
 
--- (b) Variables have places.
+-- (b) What is read is found.
 
 abbrev pub fiction_of : List Fiction → (var : ℕ) → Option Stated
 fiction_of [] x = None
@@ -94,7 +95,7 @@ closure_of (Some e) = by_thing e.thing
     by_thing : Thing Callee → Option ℕ
     by_thing (Procedure (Closes q kept)) = Some q
     by_thing (Procedure (Continues points)) = None
-    by_thing (Datum o c) = None
+    by_thing (Holding o c) = None
 
 abbrev pub is_closure : (proc : ℕ) → Option ℕ → Bool
 is_closure q None = false
@@ -114,22 +115,22 @@ abbrev pub agrees : At → Option Stated → Value → Bool
 agrees a None v = true
 agrees a (Some s) v = is_stated a s v
 
--- each variable that needs no place has its stated value
+-- each variable that needs no slot has its stated value
 abbrev pub fictions : At → Bool
 fictions a = list_all (λ b. agrees a (fiction_of a.plan.slots.fictitious b.0) b.1) (vars a)
 
--- a procedure finds a variable in its frame, in a place for good, as a stated value, or in its closure
-abbrev pub has_place : At → (var : ℕ) → Bool
-has_place a x =
-    has (bound (slice_get a.program.procs (running_proc a))) x || is_fictitious a.plan x || is_global a.plan x
+-- a procedure finds a variable in its frame, in a cell for good, as a stated value, or in its closure
+abbrev pub has_home : At → (var : ℕ) → Bool
+has_home a x =
+    has (frame_vars a.plan a.program (running_proc a)) x || is_fictitious a.plan x || is_global a.plan x
     || has (keeps a.plan (running_proc a)) x
 
--- the variables that a step reads, and those that the closures keep that it makes, have places
+-- the variables that a step reads, and those that the closures keep that it makes, have homes
 abbrev pub homes : At → Bool
 homes a =
     on_next
-    (λ l x deed tail. list_all (has_place a) (reads deed ++ flat_map (keeps a.plan) (closes deed)))
-    (λ x. list_all (has_place a) (option_list x)) a
+    (λ l x act. list_all (has_home a) (needs (keeps a.plan) act))
+    (λ x. list_all (has_home a) (option_list x)) a
 
 -- procedures numbered from q on keep only variables that are free in them
 abbrev pub kept_free_from : Plan → (number : ℕ) → List Lambda → Bool
@@ -139,7 +140,7 @@ kept_free_from plan q (p ∷ ps) = list_all (has p.free) (keeps plan q) && kept_
 abbrev pub kept_free : Plan → Program → Bool
 kept_free plan p = kept_free_from plan 0 p.procs
 
--- variables with a place for good are the program's own, and there are none where a procedure captures
+-- variables with a cell for good are the program's own, and there are none where a procedure captures
 abbrev pub globals_own : Plan → Program → Bool
 globals_own plan p =
     list_all (has (bound (slice_get p.procs 0))) plan.slots.global
@@ -177,9 +178,14 @@ abbrev pub sound_activation : At → Activation → Bool
 sound_activation a r = sound_vars a r.vars && list_all (sound a) (closure_value r.closure)
 
 abbrev pub sound_thing : At → Thing Callee → Bool
-sound_thing a (Datum o c) = list_all (sound a) (values_in c)
+sound_thing a (Holding o c) = list_all (sound a) (values_in c)
 sound_thing a (Procedure (Closes q kept)) = sound_vars a kept
 sound_thing a (Procedure (Continues points)) = true
+
+-- the top-level variables with the values that they have now
+abbrev pub latest : Vars → Vars
+latest [] = []
+latest (b ∷ tops) = b ∷ filter (λ c. not (nat_eq b.0 c.0)) (latest tops)
 
 -- all that is in storage: variables and closures of the running activation and of return points, records,
 -- top-level variables, objects and boxes
@@ -188,7 +194,7 @@ pointers a =
     sound_activation a a.state.now.activation
     && list_all (λ p. sound_activation a p.activation) a.state.now.points
     && list_all (λ p. not (records a.plan p.var) || sound_activation a p.activation) a.state.world.points
-    && sound_vars a a.state.world.tops
+    && sound_vars a (latest a.state.world.tops)
     && list_all (λ e. not (held_by a e.maker) || sound_thing a e.thing) a.state.world.entries
     && list_all (λ b. not (held_by a (Some b.maker)) || sound a b.value) a.state.world.boxes
 
@@ -217,16 +223,18 @@ local_here a v = by_entry (entry_at a.state.world v)
     by_entry None = false
     by_entry (Some e) = made_here a e.maker
 
-abbrev pub list_survives : At → Deed Label → (tail : Bool) → Bool
-list_survives a (Apply f y) true =
-    let w = a.state.world in
-    let s = sight (store (record { site = 0; activation = 0 })) w.entries in
-    not (list_any (local_here a) (pairs_of (length w.entries) s (value_of (vars a) y)))
-list_survives a deed tail = true
+-- what an operation would see of the objects
+abbrev pub seen_by : At → Sight
+seen_by a = sight (store (record { site = 0; activation = 0 })) a.state.world.entries
+
+abbrev pub list_survives : At → Act Label → Bool
+list_survives a (Apply f y) =
+    not (list_any (local_here a) (pairs_of (length a.state.world.entries) (seen_by a) (value_of (vars a) y)))
+list_survives a act = true
 
 -- a tail call by `%apply` is given no list of which a pair is a local object of the caller
 abbrev pub lists : At → Bool
-lists a = on_next (λ l x deed tail. list_survives a deed tail) (λ x. true) a
+lists a = on_next (λ l x act. not l.tail || list_survives a act) (λ x. true) a
 
 -- (d) No check that is dropped would refuse.
 
@@ -241,17 +249,22 @@ callee_takes a (Some e) n = by_thing e.thing
     by_thing : Thing Callee → Bool
     by_thing (Procedure (Closes q kept)) = by_proc (slice_get a.program.procs q)
     by_thing (Procedure (Continues points)) = nat_eq n 1
-    by_thing (Datum o c) = false
+    by_thing (Holding o c) = false
 
-abbrev pub passes : At → Deed Label → Bool
-passes a (Prim o ys) =
-    all_fit (sight (store (record { site = 0; activation = 0 })) a.state.world.entries) (operands_of o) (values_of (vars a) ys)
+-- whether a value is a procedure that takes these operands; there are none where the list is not proper
+abbrev pub takes_list : At → Value → Option (List Value) → Bool
+takes_list a v None = false
+takes_list a v (Some vs) = callee_takes a (entry_at a.state.world v) (length vs)
+
+abbrev pub passes : At → Act Label → Bool
+passes a (Prim o ys) = all_fit (seen_by a) (operands_of o) (values_of (vars a) ys)
 passes a (Call f ys) = callee_takes a (entry_at a.state.world (value_of (vars a) f)) (length ys)
+passes a (Apply f y) = takes_list a (value_of (vars a) f) (items_at (seen_by a) (value_of (vars a) y))
 passes a (CallCC f) = callee_takes a (entry_at a.state.world (value_of (vars a) f)) 1
-passes a deed = true
+passes a act = true
 
 abbrev pub checks : At → Bool
-checks a = on_next (λ l x deed tail. (use_of a.plan l.step).checked || passes a deed) (λ x. true) a
+checks a = on_next (λ l x act. (use_of a.plan l.step).checked || passes a act) (λ x. true) a
 
 -- (e) Representations fit.
 
@@ -276,41 +289,36 @@ reaches_capture a v = by_entry (entry_at a.state.world v)
     by_thing : Thing Callee → Bool
     by_thing (Procedure (Closes q kept)) = captures a.plan q
     by_thing (Procedure (Continues points)) = true
-    by_thing (Datum o c) = false
+    by_thing (Holding o c) = false
 
     by_entry : Option Entry → Bool
     by_entry None = false
     by_entry (Some e) = by_thing e.thing
 
-abbrev pub operator_of : Deed Label → Option ℕ
-operator_of (Call f ys) = Some f
-operator_of (Apply f y) = Some f
-operator_of (CallCC f) = Some f
-operator_of deed = None
-
-abbrev pub is_callcc : Deed Label → Bool
-is_callcc (CallCC f) = true
-is_callcc deed = false
-
-abbrev pub is_call : Deed Label → Bool
-is_call deed = is_some (operator_of deed)
-
 -- whether a call is in record mode: a tail call never is
-abbrev pub in_record_mode : At → (var : ℕ) → (tail : Bool) → Bool
-in_record_mode a x tail = not tail && records a.plan x
+abbrev pub in_record_mode : At → Label → (var : ℕ) → Bool
+in_record_mode a l x = not l.tail && records a.plan x
 
 abbrev pub calls_capture : At → Option ℕ → Bool
 calls_capture a None = false
 calls_capture a (Some f) = reaches_capture a (value_of (vars a) f)
 
--- a procedure that is not capturing runs no `%call/cc` and no call in record mode, and calls no continuation
--- and no capturing procedure
+abbrev pub is_error : Option Stop → Bool
+is_error (Some (Error k place)) = true
+is_error s = false
+
+-- whether the step that is next stops with an error; a call is refused so, and then calls and enters nothing
+abbrev pub refused : At → Bool
+refused a = is_error a.next.stop
+
+-- a procedure that is not capturing runs no `%call/cc` and no call in record mode, refused or not, and calls no
+-- continuation and no capturing procedure
 abbrev pub quiet_calls : At → Bool
 quiet_calls a =
     captures a.plan (running_proc a)
     || on_next
-    (λ l x deed tail.
-    not (is_callcc deed || is_call deed && in_record_mode a x tail || calls_capture a (operator_of deed)))
+    (λ l x act.
+    not (is_callcc act || is_call act && in_record_mode a l x || not (refused a) && calls_capture a (operator_of act)))
     (λ x. true) a
 
 abbrev pub is_local : Plan → Option Maker → Bool
@@ -341,22 +349,20 @@ captured_global a = list_all (λ m. not (is_local a.plan m && captures a.plan (m
 -- mode
 abbrev pub capture_modes : At → Bool
 capture_modes a =
-    not (captures a.plan (running_proc a))
-    || on_next (λ l x deed tail. not (is_callcc deed) || tail || in_record_mode a x tail) (λ x. true) a
+    not (captures a.plan (running_proc a)) || refused a
+    || on_next (λ l x act. not (is_callcc act) || l.tail || in_record_mode a l x) (λ x. true) a
 
 -- a capturing procedure is entered from record mode, or by a tail call of a capturing one
 abbrev pub capture_entries : At → Bool
 capture_entries a =
     not (enters a && captures a.plan a.next.now.activation.proc)
-    || on_next
-    (λ l x deed tail. in_record_mode a x tail || tail && captures a.plan (running_proc a))
-    (λ x. true) a
+    || on_next (λ l x act. in_record_mode a l x || l.tail && captures a.plan (running_proc a)) (λ x. true) a
 
 -- a tail call of a capturing procedure enters no procedure that is not capturing
 abbrev pub capture_tails : At → Bool
 capture_tails a =
     not (captures a.plan (running_proc a) && enters a)
-    || on_next (λ l x deed tail. not tail || captures a.plan a.next.now.activation.proc) (λ x. true) a
+    || on_next (λ l x act. not l.tail || captures a.plan a.next.now.activation.proc) (λ x. true) a
 
 -- (g) Closures that `%eqv?` may tell apart are compared.
 
@@ -364,14 +370,14 @@ abbrev pub told_apart : At → Option ℕ → Option ℕ → Bool
 told_apart a (Some q) (Some r) = not (nat_eq q r) || is_compared a.plan q
 told_apart a q r = true
 
-abbrev pub compares : At → Deed Label → Bool
+abbrev pub compares : At → Act Label → Bool
 compares a (Prim op.Eqv (x ∷ y ∷ [])) =
     told_apart a (closure_of (entry_at a.state.world (value_of (vars a) x)))
     (closure_of (entry_at a.state.world (value_of (vars a) y)))
-compares a deed = true
+compares a act = true
 
 abbrev pub compared : At → Bool
-compared a = on_next (λ l x deed tail. compares a deed) (λ x. true) a
+compared a = on_next (λ l x act. compares a act) (λ x. true) a
 
 -- The shape of a plan
 

@@ -1,11 +1,15 @@
+ghost use Rattle.std.specs.Prelude.{◌≡◌, Some};
 ghost use Rattle.scheme_base.specs.declared.env.Env.{Env as Outside};
+ghost use Rattle.scheme_base.specs.Runs.{Lawful};
+ghost use Rattle.scheme_base.specs.Stops.{Stop};
 ghost use Rattle.named_form.specs.Code.{Program};
-ghost use Rattle.named_form.specs.NamedRun.{State};
-ghost use Rattle.named_form.specs.Laws.{Goes};
+ghost use Rattle.named_form.specs.Laws.{HoldsAsMuch, Keeps};
+ghost use Rattle.named_form.specs.NamedRun.{State, machine, step};
 
-/// The laws of the named machine: a step is total, a state that has stopped stays and holds what the state
-/// before held, a trace grows by one call at most, objects, boxes, return points and activations keep their
-/// numbers, and what is written is what the writes that succeeded took.
+/// The laws of the named machine: a step is total, the machine is a lawful one, objects, boxes, return points
+/// and activations keep their numbers, and a state that has stopped holds what the state before it held.
 pub fn named_steps()
-    ensures { (p : Program) (env : Outside) (s : State) → Goes p env s }
+    ensures lawful { (p : Program) (env : Outside) → Lawful (machine p env) }
+    ensures keeps { (p : Program) (env : Outside) (s : State) → Keeps s.world (step p env s).world }
+    ensures holds { (p : Program) (env : Outside) (s : State) (stop : Stop) → (step p env s).stop ≡ Some stop → HoldsAsMuch s (step p env s) }
 {}

@@ -1,6 +1,6 @@
 use scheme_base::{Ids, List, Mark, Stated, Uses};
 
-/// A list of sites, which rises: places of the program that make objects, numbered as `specs/Code` says.
+/// A list of sites, which rises: what makes objects in a program, numbered as `specs/Code` says.
 pub type Sites = Ids;
 
 /// Where the objects of each site are made.
@@ -14,18 +14,18 @@ pub struct ProcSet {
     pub recording: Ids,
 }
 
-/// A variable that needs no place, since its value is known.
+/// A variable that needs no slot, since its value is known.
 #[derive(Debug, Drop)]
 pub struct Fiction {
     pub var: u32,
     pub value: Stated,
 }
 
-/// Variables that need no place.
+/// Variables that need no slot.
 pub type Fictions = List<Fiction>;
 
 /// Where variables are held: per procedure the variables that its closures keep; the variables that need
-/// no place; those of the program's own block that have one place for good. `compared` has the procedures
+/// no slot; those of the program's own block that have a cell for good. `compared` has the procedures
 /// whose closures are told apart. Each list rises.
 #[derive(Debug, Drop)]
 pub struct Slots {

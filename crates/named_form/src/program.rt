@@ -40,7 +40,7 @@ pub enum Act {
     TopDefine { top: u32, from: u32 },
 }
 
-/// One step: the new variables that it binds, one but for a `Fix`, and the place that its errors name.
+/// One step: the new variables that it binds, one but for a `Fix`, and the position that its errors name.
 #[derive(Debug, Drop)]
 #[cycle(named)]
 pub struct Step {
