@@ -1,10 +1,8 @@
 mod Digits
-mod Environments
 mod Fetching
 mod Loads
 mod Places
 mod Playing
 mod Settling
-mod Shown
 mod Stores
 mod Systems

@@ -3,12 +3,15 @@ use Rattle.std.proofs.Common.{◌≡◌, ℕ, zero, suc, ◌+◌, ◌-◌, ◌<�
 use Rattle.scheme_base.specs.declared.env.Env.{Env}
 use Rattle.scheme_base.specs.Outside.{Calls}
 use Rattle.scheme_base.specs.Runs.{after}
-use Rattle.scheme_base.proofs.Runs.{after-add}
+use Rattle.scheme_base.proofs.Simulations.{after-add}
 use Rattle.rv_form.specs.Machine.{World, Run, machine_in, step}
 use Rattle.rv_emulator.specs.declared.next.End.{End}
 use Rattle.rv_emulator.specs.declared.next.End.TheVariants as ends
 use Rattle.rv_emulator.specs.States.{ended_as}
-use Rattle.rv_emulator.specs.Passing.{Told, Call, Passes, AnswersAs, after_call, calls_with, Gives, Plays}
+use Rattle.stalin_outside.specs.Console.{Told}
+use Rattle.stalin_outside.specs.Environment.{AnswersAs, with_call, calls_with, Gives}
+use Rattle.stalin_outside.specs.Transcript.{Call, Passes}
+use Rattle.rv_emulator.specs.Plays.{Plays}
 
 -- nothing was called
 pub plays_alone : {from : Env → Calls → Run} {to : Calls → Run} {before : Told}
@@ -24,7 +27,7 @@ passes_then (call ∷ made) earlier before between now first second =
 calls_then : (env : Env) (calls : Calls) (made earlier : List Call)
     → calls_with env calls (made ++ earlier) ≡ calls_with env (calls_with env calls earlier) made
 calls_then env calls [] earlier = refl
-calls_then env calls (call ∷ made) earlier = ap (after_call env call) (calls_then env calls made earlier)
+calls_then env calls (call ∷ made) earlier = ap (with_call env call) (calls_then env calls made earlier)
 
 -- what was given in the whole was given in each part
 pub record Parts (env : Env) (calls : Calls) (made earlier : List Call) : Type 0 where

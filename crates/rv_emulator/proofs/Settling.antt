@@ -8,7 +8,8 @@ use Rattle.rv_form.specs.declared.instr.Instr.TheVariants.{Lb, Lh, Lw, Ld, Lbu, 
 use Rattle.rv_emulator.specs.declared.next.End.{End}
 use Rattle.rv_emulator.specs.declared.next.End.TheVariants as ends
 use Rattle.rv_emulator.specs.Held.{Held, run_in, run_of, settled, settled_by, world_under}
-use Rattle.rv_emulator.specs.Passing.{Told, Plays}
+use Rattle.stalin_outside.specs.Console.{Told}
+use Rattle.rv_emulator.specs.Plays.{Plays}
 use Rattle.std.specs.Prelude.{slice_index}
 use Rattle.rv_emulator.specs.Memory.{memory_of}
 use Rattle.rv_emulator.specs.declared.region.Region.{Region}

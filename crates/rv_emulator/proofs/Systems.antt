@@ -9,7 +9,7 @@ use Rattle.rv_form.specs.Machine.{World, Run, Running, Ask, Answers, Reads, Writ
 use Rattle.rv_emulator.specs.declared.region.Region.{Region}
 use Rattle.rv_emulator.specs.declared.registers.Registers.{Registers}
 use Rattle.rv_emulator.specs.Memory.{memory_of}
-use Rattle.rv_emulator.specs.Passing.{read_event_of, write_event_of}
+use Rattle.stalin_outside.specs.Transcript.{read_event_of, write_event_of}
 use Rattle.rv_emulator.specs.States.{reads, regs_of, state_of}
 
 abbrev at : (pc : ℕ) (regs memory : ℕ → ℕ) → Calls → Run

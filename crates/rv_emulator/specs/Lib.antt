@@ -1,6 +1,5 @@
 pub mod Memory
 pub mod States
-pub mod Passing
+pub mod Plays
 pub mod Loading
 pub mod Held
-pub mod Answered

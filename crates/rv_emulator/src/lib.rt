@@ -2,7 +2,6 @@
 #![tactic(auto)]
 
 mod exec;
-mod laws;
 mod loading;
 mod machine;
 mod memory;
@@ -14,7 +13,6 @@ mod step;
 mod system;
 mod trap;
 
-pub use laws::{answers_are_of_an_environment, console_shows_the_trace};
 pub use machine::{Machine, load};
 pub use next::RunEnd;
 

@@ -4,7 +4,7 @@ ghost use Rattle.rv_form.specs.Machine.{machine_in};
 ghost use Rattle.rv_emulator.specs.declared.next.End.{End as Ending};
 ghost use Rattle.rv_emulator.specs.Held.{StartsAs, answer_in, run_of, settled, world_under};
 ghost use Rattle.rv_emulator.specs.Loading.{IsLoadable};
-ghost use Rattle.rv_emulator.specs.Passing.{Plays, told};
+ghost use Rattle.rv_emulator.specs.Plays.{Plays};
 
 use crate::loading::{Code, Memory, lay, read_code};
 use crate::next::{End, RunEnd, answer};
@@ -72,10 +72,7 @@ impl Machine {
             (λ env calls. settled (world_under self.old env)
             (after (machine_in (world_under self.old env)) steps (run_of self.old calls)))
             (run_of self.new)
-            (told (C.input console.old) (C.output console.old) (C.errors console.old) (C.answers console.old)
-            (C.err_answers console.old) (C.faults console.old) (C.err_faults console.old))
-            (told (C.input console.new) (C.output console.new) (C.errors console.new) (C.answers console.new)
-            (C.err_answers console.new) (C.faults console.new) (C.err_faults console.new)) }
+            (C.told console.old) (C.told console.new) }
         ensures answer { result ≡ answer_in steps self.new.end }
         ensures regions { self.new.regions ≡ self.old.regions }
         ensures stopped { (end : Ending) → self.old.end ≡ Some end → (self.new ≡ self.old) × (console.new ≡ console.old) }

@@ -7,7 +7,7 @@ ghost use Rattle.rv_form.specs.declared.instr.Instr.{Instr as Instruction};
 ghost use Rattle.rv_form.specs.Instruction.{IsValid};
 ghost use Rattle.rv_form.specs.Machine.{Running, fetch as fetched_in, machine_in, step as step_in};
 ghost use Rattle.rv_emulator.specs.Memory.{Laid, memory_of};
-ghost use Rattle.rv_emulator.specs.Passing.{Plays, told};
+ghost use Rattle.rv_emulator.specs.Plays.{Plays};
 ghost use Rattle.rv_emulator.specs.States.{IsCached, Kept, fetched_as, no_env, state_of, turned, world_with};
 
 use crate::exec::exec;
@@ -37,10 +37,7 @@ pub fn do_steps<C: Console>(
         (λ env calls. after (machine_in (world_with regions.now env)) count
         (Running (state_of pc registers.old regions.now bytes.old calls)))
         (turned result registers.new regions.now bytes.new)
-        (told (C.input console.old) (C.output console.old) (C.errors console.old) (C.answers console.old)
-        (C.err_answers console.old) (C.faults console.old) (C.err_faults console.old))
-        (told (C.input console.new) (C.output console.new) (C.errors console.new) (C.answers console.new)
-        (C.err_answers console.new) (C.faults console.new) (C.err_faults console.new)) }
+        (C.told console.old) (C.told console.new) }
     ensures laid { Laid regions.now bytes.new }
     ensures cached { IsCached regions.now bytes.new base words.now }
 {
@@ -71,10 +68,7 @@ fn step<C: Console>(
         (λ env calls. step_in (world_with regions.now env)
         (Running (state_of pc registers.old regions.now bytes.old calls)))
         (turned result registers.new regions.now bytes.new)
-        (told (C.input console.old) (C.output console.old) (C.errors console.old) (C.answers console.old)
-        (C.err_answers console.old) (C.faults console.old) (C.err_faults console.old))
-        (told (C.input console.new) (C.output console.new) (C.errors console.new) (C.answers console.new)
-        (C.err_answers console.new) (C.faults console.new) (C.err_faults console.new)) }
+        (C.told console.old) (C.told console.new) }
     ensures laid { Laid regions.now bytes.new }
     ensures cached { IsCached regions.now bytes.new base words.now }
 {

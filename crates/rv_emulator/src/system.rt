@@ -5,7 +5,9 @@ ghost use Rattle.scheme_base.specs.Outside.{Calls};
 ghost use Rattle.rv_form.specs.Numbers.{word as word_of};
 ghost use Rattle.rv_form.specs.Machine.{answer_of, asked as asked_in, received, system as does_system, with_reg};
 ghost use Rattle.rv_emulator.specs.Memory.{Laid, flags_in, has_flag, memory_of};
-ghost use Rattle.rv_emulator.specs.Passing.{IsRead, IsWrite, IsSend, Plays, read_event_of, told, write_event_of};
+ghost use Rattle.stalin_outside.specs.Console.{IsRead, IsWrite, IsSend};
+ghost use Rattle.stalin_outside.specs.Transcript.{IsByte, read_event_of, write_event_of};
+ghost use Rattle.rv_emulator.specs.Plays.{Plays};
 ghost use Rattle.rv_emulator.specs.States.{Kept, ask_as, reads, regs_of, state_of, turned, world_with};
 
 use crate::memory::{load, store};
@@ -55,10 +57,7 @@ pub fn system<C: Console>(
         (asked_in (world_with regions.now env) (state_of pc registers.old regions.now bytes.old calls))
         (state_of pc registers.old regions.now bytes.old calls))
         (turned result registers.new regions.now bytes.new)
-        (told (C.input console.old) (C.output console.old) (C.errors console.old) (C.answers console.old)
-        (C.err_answers console.old) (C.faults console.old) (C.err_faults console.old))
-        (told (C.input console.new) (C.output console.new) (C.errors console.new) (C.answers console.new)
-        (C.err_answers console.new) (C.faults console.new) (C.err_faults console.new)) }
+        (C.told console.old) (C.told console.new) }
     ensures laid { Laid regions.now bytes.new }
     ensures kept { Kept regions.now bytes.old bytes.new }
 {
@@ -138,11 +137,8 @@ fn go_on(pc: u64, answer: u64, registers: &mut Registers) -> u64
 fn read_byte<C: Console>(a: u64, regions: &[Region], bytes: &mut [u8], console: &mut C) -> In
     requires laid { Laid regions.now bytes.old }
     requires usable { has_flag (flags_in regions.now a) 2 ≡ true }
-    ensures call { IsRead result
-        (told (C.input console.old) (C.output console.old) (C.errors console.old) (C.answers console.old)
-        (C.err_answers console.old) (C.faults console.old) (C.err_faults console.old))
-        (told (C.input console.new) (C.output console.new) (C.errors console.new) (C.answers console.new)
-        (C.err_answers console.new) (C.faults console.new) (C.err_faults console.new)) }
+    ensures byte { IsByte result }
+    ensures call { IsRead result (C.told console.old) (C.told console.new) }
     ensures memory { memory_of regions.now bytes.new ≡ received (read_event_of result) a (memory_of regions.now bytes.old) }
     ensures laid { Laid regions.now bytes.new }
     ensures kept { Kept regions.now bytes.old bytes.new }
@@ -156,22 +152,14 @@ fn read_byte<C: Console>(a: u64, regions: &[Region], bytes: &mut [u8], console: 
 
 /// Writes a byte to the output.
 fn write_byte<C: Console>(byte: u8, console: &mut C) -> Out
-    ensures { IsWrite byte result
-        (told (C.input console.old) (C.output console.old) (C.errors console.old) (C.answers console.old)
-        (C.err_answers console.old) (C.faults console.old) (C.err_faults console.old))
-        (told (C.input console.new) (C.output console.new) (C.errors console.new) (C.answers console.new)
-        (C.err_answers console.new) (C.faults console.new) (C.err_faults console.new)) }
+    ensures { IsWrite byte result (C.told console.old) (C.told console.new) }
 {
     console.out(byte)
 }
 
 /// Writes a byte to the output for errors.
 fn send_byte<C: Console>(byte: u8, console: &mut C) -> Out
-    ensures { IsSend byte result
-        (told (C.input console.old) (C.output console.old) (C.errors console.old) (C.answers console.old)
-        (C.err_answers console.old) (C.faults console.old) (C.err_faults console.old))
-        (told (C.input console.new) (C.output console.new) (C.errors console.new) (C.answers console.new)
-        (C.err_answers console.new) (C.faults console.new) (C.err_faults console.new)) }
+    ensures { IsSend byte result (C.told console.old) (C.told console.new) }
 {
     console.err(byte)
 }

@@ -8,7 +8,7 @@ ghost use Rattle.rv_form.specs.Machine.{Running, act, machine_in, step as step_i
 ghost use Rattle.rv_emulator.specs.Memory.{Laid, all_flagged, bytes_of};
 ghost use Rattle.scheme_base.specs.Runs.{after};
 ghost use Rattle.rv_emulator.specs.Held.{run_in, settled};
-ghost use Rattle.rv_emulator.specs.Passing.{Plays, told};
+ghost use Rattle.rv_emulator.specs.Plays.{Plays};
 ghost use Rattle.rv_emulator.specs.States.{IsCached, reads, state_of, trap_of, world_with};
 
 use crate::memory::{Fetched, may};
@@ -46,10 +46,7 @@ pub fn go_on<C: Console>(
         (after (machine_in (world_with regions.now env)) steps
         (Running (state_of pc registers.old regions.now bytes.old calls))))
         (λ calls. run_in result.end (state_of result.pc registers.new regions.now bytes.new calls))
-        (told (C.input console.old) (C.output console.old) (C.errors console.old) (C.answers console.old)
-        (C.err_answers console.old) (C.faults console.old) (C.err_faults console.old))
-        (told (C.input console.new) (C.output console.new) (C.errors console.new) (C.answers console.new)
-        (C.err_answers console.new) (C.faults console.new) (C.err_faults console.new)) }
+        (C.told console.old) (C.told console.new) }
     ensures laid { Laid regions.now bytes.new }
     ensures size { length bytes.new ≡ length bytes.old }
     ensures cached { IsCached regions.now bytes.new base words.now }

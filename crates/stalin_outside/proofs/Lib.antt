@@ -1,4 +1,9 @@
+mod Appended
 mod Counting
 mod Finding
-mod Told
-mod Known
+mod FilesTold
+mod Interrupted
+mod Pieces
+mod SomeEnvironment
+mod ShowsTrace
+mod TextsWritten

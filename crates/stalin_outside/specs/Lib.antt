@@ -1,10 +1,14 @@
 pub mod Calls
 pub mod Causes
 pub mod Console
+pub mod Environment
 pub mod FileShelf
 pub mod MemConsole
 pub mod MemShelf
+pub mod Sending
 pub mod Shelf
 pub mod Stored
 pub mod Stream
 pub mod Streams
+pub mod Transcript
+pub mod WholeFiles

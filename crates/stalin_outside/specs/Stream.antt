@@ -46,6 +46,6 @@ out_answer true = writes.Failed
 out_answer false = writes.Took
 
 -- all answers, as long as the number of the later calls tells how many they are
-abbrev pub told : Stream → Option (List Answer)
-told stream =
+abbrev pub all_answers : Stream → Option (List Answer)
+all_answers stream =
     if nat_lt stream.later (2 ^ 64 - 1) then Some (replicate stream.later answers.Failed ++ stream.answers) else None

@@ -1,6 +1,4 @@
-ghost use Rattle.std.specs.Prelude.{◌≡◌, ℕ, List, Option};
-ghost use Rattle.stalin_outside.specs.Causes.{HasCause};
-ghost use Rattle.stalin_outside.specs.Console.{Takes, Adds, text_after, answer_of_input, answer_of_write};
+ghost use Rattle.stalin_outside.specs.Console.{IsRead, IsWrite, IsSend};
 
 /// What a read of the input answers.
 #[derive(Clone, Copy, Debug, PartialEq, Eq)]
@@ -36,56 +34,20 @@ pub enum Answer {
 /// Two numbers count faults: one those of `input` and `out` together, the other those of `err`. The
 /// answers stand in two lists likewise.
 pub trait Console {
-    ghost use Rattle.stalin_outside.specs.declared.console.Answer.{Answer};
+    ghost use Rattle.stalin_outside.specs.Console.{Told};
 
-    /// The bytes that are left to read, where the console tells them.
-    ghost input: { Self → Option (List ℕ) };
-
-    /// The bytes that `out` has written, where the console tells them.
-    ghost output: { Self → Option (List ℕ) };
-
-    /// The bytes that `err` has written, where the console tells them.
-    ghost errors: { Self → Option (List ℕ) };
-
-    /// The answers of `input` and `out`, the newest first, where the console tells them.
-    ghost answers: { Self → Option (List Answer) };
-
-    /// The answers of `err`, the newest first, where the console tells them.
-    ghost err_answers: { Self → Option (List Answer) };
-
-    /// How many calls of `input` and `out` have failed, at least.
-    ghost faults: { Self → ℕ };
-
-    /// How many calls of `err` have failed, at least.
-    ghost err_faults: { Self → ℕ };
+    /// What the console tells of itself.
+    ghost told: { Self → Told };
 
     /// Takes the next byte of the input.
     fn input(&mut self) -> In
-        ensures taken { Takes result (input self.old) (input self.new) }
-        ensures output { output self.new ≡ output self.old }
-        ensures errors { errors self.new ≡ errors self.old }
-        ensures answers { Adds (answer_of_input result) (answers self.old) (answers self.new) }
-        ensures err_answers { err_answers self.new ≡ err_answers self.old }
-        ensures cause { HasCause (faults self.old) (faults self.new) (result ≡ In.Failed) }
-        ensures err_faults { err_faults self.new ≡ err_faults self.old };
+        ensures { IsRead result (told self.old) (told self.new) };
 
     /// Writes a byte to the output.
     fn out(&mut self, byte: u8) -> Out
-        ensures input { input self.new ≡ input self.old }
-        ensures output { output self.new ≡ text_after byte result (output self.old) }
-        ensures errors { errors self.new ≡ errors self.old }
-        ensures answers { Adds (answer_of_write byte result) (answers self.old) (answers self.new) }
-        ensures err_answers { err_answers self.new ≡ err_answers self.old }
-        ensures cause { HasCause (faults self.old) (faults self.new) (result ≡ Out.Failed) }
-        ensures err_faults { err_faults self.new ≡ err_faults self.old };
+        ensures { IsWrite byte result (told self.old) (told self.new) };
 
     /// Writes a byte to the output for errors.
     fn err(&mut self, byte: u8) -> Out
-        ensures input { input self.new ≡ input self.old }
-        ensures output { output self.new ≡ output self.old }
-        ensures errors { errors self.new ≡ text_after byte result (errors self.old) }
-        ensures answers { answers self.new ≡ answers self.old }
-        ensures err_answers { Adds (answer_of_write byte result) (err_answers self.old) (err_answers self.new) }
-        ensures faults { faults self.new ≡ faults self.old }
-        ensures cause { HasCause (err_faults self.old) (err_faults self.new) (result ≡ Out.Failed) };
+        ensures { IsSend byte result (told self.old) (told self.new) };
 }

@@ -1,4 +1,4 @@
-ghost use Rattle.std.specs.Prelude.{◌≡◌, [], Some, IfOk};
+ghost use Rattle.std.specs.Prelude.{◌≡◌, [], Some, IfOk, OnOk, OnErr};
 
 use crate::console::{Answer, Console, In, Out};
 use channel::Channel;
@@ -57,6 +57,18 @@ impl MemConsole {
         })
     }
 
+    /// Lists the calls of `err` that are to fail, in the place of those listed before; they are counted by
+    /// themselves from 1, since the console was made.
+    pub fn fail_errors_at(&mut self, alloc: Global, calls: &[u64]) -> Result<(), AllocError>
+        ensures ok { OnOk result (self.new ≡ record self.old {
+          errors =
+              record self.old.errors { calls = record self.old.errors.calls { failing = calls.now } };
+        }) }
+        ensures err { OnErr result (self.new ≡ self.old) }
+    {
+        self.errors.fail_at(alloc, calls)
+    }
+
     /// What `out` has written.
     pub fn output(&self) -> &[u8]
         ensures { result.now ≡ self.now.channel.bytes }
@@ -75,29 +87,25 @@ impl MemConsole {
 impl Console for MemConsole {
     ghost use Rattle.stalin_outside.specs.Causes.{HasCause};
     ghost use Rattle.stalin_outside.specs.Console.{Takes, Adds, answer_of_input, answer_of_write};
-    ghost use Rattle.stalin_outside.specs.Stream.{answered, call_fails, out_answer, told, written};
+    ghost use Rattle.stalin_outside.specs.Stream.{answered, call_fails, out_answer, all_answers, written};
     ghost use Rattle.stalin_outside.specs.MemConsole.{in_answer, input_left};
 
-    ghost input = { λ console. Some (input_left console) };
-
-    ghost output = { λ console. Some console.channel.bytes };
-
-    ghost errors = { λ console. Some console.errors.bytes };
-
-    ghost answers = { λ console. told console.channel };
-
-    ghost err_answers = { λ console. told console.errors };
-
-    ghost faults = { λ console. console.channel.calls.failed };
-
-    ghost err_faults = { λ console. console.errors.calls.failed };
+    ghost told = { λ console. record {
+      input = Some (input_left console);
+      output = Some console.channel.bytes;
+      errors = Some console.errors.bytes;
+      answers = all_answers console.channel;
+      err_answers = all_answers console.errors;
+      faults = console.channel.calls.failed;
+      err_faults = console.errors.calls.failed;
+    } };
 
     fn input(&mut self) -> In
         ensures exact { result ≡ in_answer (call_fails self.old.channel) (input_left self.old) }
         ensures taken { Takes result (Some (input_left self.old)) (Some (input_left self.new)) }
         ensures channel { self.new.channel ≡ answered (answer_of_input result) self.old.channel }
         ensures errors { self.new.errors ≡ self.old.errors }
-        ensures told { Adds (answer_of_input result) (told self.old.channel) (told self.new.channel) }
+        ensures answers { Adds (answer_of_input result) (all_answers self.old.channel) (all_answers self.new.channel) }
         ensures cause { HasCause self.old.channel.calls.failed self.new.channel.calls.failed (result ≡ In.Failed) }
     {
         if self.channel.refuses() {
@@ -120,7 +128,7 @@ impl Console for MemConsole {
         ensures exact { result ≡ out_answer (call_fails self.old.channel) }
         ensures channel { self.new.channel ≡ written byte result self.old.channel }
         ensures others { self.new ≡ record self.old { channel = self.new.channel } }
-        ensures told { Adds (answer_of_write byte result) (told self.old.channel) (told self.new.channel) }
+        ensures answers { Adds (answer_of_write byte result) (all_answers self.old.channel) (all_answers self.new.channel) }
         ensures cause { HasCause self.old.channel.calls.failed self.new.channel.calls.failed (result ≡ Out.Failed) }
     {
         self.channel.write(byte)
@@ -130,7 +138,7 @@ impl Console for MemConsole {
         ensures exact { result ≡ out_answer (call_fails self.old.errors) }
         ensures errors { self.new.errors ≡ written byte result self.old.errors }
         ensures others { self.new ≡ record self.old { errors = self.new.errors } }
-        ensures told { Adds (answer_of_write byte result) (told self.old.errors) (told self.new.errors) }
+        ensures answers { Adds (answer_of_write byte result) (all_answers self.old.errors) (all_answers self.new.errors) }
         ensures cause { HasCause self.old.errors.calls.failed self.new.errors.calls.failed (result ≡ Out.Failed) }
     {
         self.errors.write(byte)

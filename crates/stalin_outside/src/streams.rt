@@ -49,19 +49,15 @@ impl<I: Read + Drop, O: Write + Drop, E: Write + Drop> Console for StdConsole<I,
     ghost use Rattle.std.specs.Prelude.{None};
     ghost use Rattle.stalin_outside.specs.Causes.{HasCause};
 
-    ghost input = { λ console. None };
-
-    ghost output = { λ console. None };
-
-    ghost errors = { λ console. None };
-
-    ghost answers = { λ console. None };
-
-    ghost err_answers = { λ console. None };
-
-    ghost faults = { λ console. console.faults };
-
-    ghost err_faults = { λ console. console.err_faults };
+    ghost told = { λ console. record {
+      input = None;
+      output = None;
+      errors = None;
+      answers = None;
+      err_answers = None;
+      faults = console.faults;
+      err_faults = console.err_faults;
+    } };
 
     fn input(&mut self) -> In
         ensures byte { ReadByte (I.remaining self.old.input) (I.remaining self.new.input) result }

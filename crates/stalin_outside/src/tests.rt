@@ -1,10 +1,12 @@
 use crate::{
-    Begun, Console, FileShelf, Gate, Got, In, MemConsole, MemShelf, OpenGate, Out, Shelf,
-    StdConsole, Took,
+    Begun, Console, FileShelf, Gate, Got, In, MemConsole, MemShelf, OpenGate, Out, Reading, Shelf,
+    StdConsole, Took, Writing, print, read_file, send_all, write_file,
 };
 use std::alloc::{AllocError, Global};
+use std::fs::OpenOptions;
 use std::io::{ErrorKind, Read};
-use std::os::unix::fs::PermissionsExt;
+use std::os::unix::fs::{OpenOptionsExt, PermissionsExt};
+use std::rt::Files;
 use std::test::Fail;
 use std::{fs, io};
 
@@ -171,23 +173,94 @@ fn a_stream_that_takes_nothing_is_a_fault(rt: HostRuntime) -> Result<(), Fail> {
 }
 
 #[test]
+fn texts_are_written_up_to_the_first_failure(rt: HostRuntime) -> Result<(), Fail> {
+    for (failing, whole, text) in [(0u64, true, "abcd"), (1, false, ""), (3, false, "ab")] {
+        let mut console = MemConsole::new(rt.alloc(), b"", 9, &[failing])?;
+        assert_eq!(rt; print(&mut console, b"abcd"), whole);
+        assert_eq!(rt; console.output(), text.as_bytes());
+        assert_eq!(rt; console.errors(), b"".as_slice());
+        console.fail_errors_at(rt.alloc(), &[failing])?;
+        assert_eq!(rt; send_all(&mut console, &[b"ab", b"", b"cd"]), whole);
+        assert_eq!(rt; console.errors(), text.as_bytes());
+        assert_eq!(rt; console.output(), text.as_bytes());
+    }
+    Ok(())
+}
+
+#[test]
+fn whole_files_are_read_up_to_a_limit(rt: HostRuntime) -> Result<(), Fail> {
+    for (most, whole) in [(2usize, false), (3, true), (4, true)] {
+        let mut shelf = shelf_with_room(rt.alloc(), 3)?;
+        match read_file(rt.alloc(), &mut shelf, "in", most) {
+            Reading::Whole(bytes) => assert_eq!(rt; bytes.as_slice(), [7, 8, 9].as_slice()),
+            Reading::TooLong => assert!(rt; !whole, "{most} bytes"),
+            _ => assert!(rt; false, "{most} bytes"),
+        }
+    }
+    Ok(())
+}
+
+/// The bytes and the permission bits of the file of this name.
+#[derive(Drop)]
+struct Found {
+    bytes: Vec<u8>,
+    mode: u32,
+}
+
+/// Takes a file away, and tells what it was.
+fn taken<R: AllocGlobal + Files>(rt: &R, name: &str) -> Result<Found, Fail> {
+    let bytes = fs::read(rt, name)?;
+    let mode = fs::metadata(rt, name)?.permissions().mode() & 0o777;
+    fs::remove_file(rt, name)?;
+    Ok(Found { bytes, mode })
+}
+
+#[test]
 fn real_files_are_copied(rt: HostRuntime) -> Result<(), Fail> {
     let from = "stalin_outside_from.tmp";
     let to = "stalin_outside_to.tmp";
     fs::write(&rt, from, [7u8, 8, 9].as_slice())?;
     let mut shelf = FileShelf::new(&rt, rt.alloc())?;
     let failure = first_failure(&mut shelf, from, to);
-    let copied = fs::read(&rt, to)?;
-    let mode = fs::metadata(&rt, to)?.permissions().mode();
-    fs::remove_file(&rt, to)?;
-    fs::remove_file(&rt, from)?;
+    let copy = taken(&rt, to)?;
+    let source = taken(&rt, from)?;
     assert_eq!(rt; failure, 0);
-    assert_eq!(rt; copied.as_slice(), [7, 8, 9].as_slice());
-    assert_eq!(rt;
-        mode & 0o100,
-        0o100,
-        "the owner may execute what was created"
-    );
+    assert_eq!(rt; copy.bytes.as_slice(), [7, 8, 9].as_slice());
+    assert_eq!(rt; source.bytes.as_slice(), [7, 8, 9].as_slice());
+    Ok(())
+}
+
+#[test]
+fn real_files_are_created_with_all_permissions_less_the_mask(rt: HostRuntime) -> Result<(), Fail> {
+    let name = "stalin_outside_created.tmp";
+    let other = "stalin_outside_all.tmp";
+    let mut options = OpenOptions::new();
+    options.write(true).create_new(true).mode(0o777);
+    drop(options.open(&rt, other)?);
+    let mut shelf = FileShelf::new(&rt, rt.alloc())?;
+    let written = write_file(&mut shelf, name, &[7]);
+    let created = taken(&rt, name)?;
+    let all = taken(&rt, other)?;
+    assert_eq!(rt; written, Writing::Done);
+    assert_eq!(rt; created.mode, all.mode);
+    Ok(())
+}
+
+#[test]
+fn real_files_are_emptied_and_keep_their_mode(rt: HostRuntime) -> Result<(), Fail> {
+    let name = "stalin_outside_long.tmp";
+    let other = "stalin_outside_other.tmp";
+    fs::write(&rt, name, [1u8; 5000].as_slice())?;
+    fs::write(&rt, other, [1u8, 2].as_slice())?;
+    let mode = fs::metadata(&rt, name)?.permissions().mode() & 0o777;
+    let mut shelf = FileShelf::new(&rt, rt.alloc())?;
+    let written = write_file(&mut shelf, name, &[7, 8, 9]);
+    let long = taken(&rt, name)?;
+    let beside = taken(&rt, other)?;
+    assert_eq!(rt; written, Writing::Done);
+    assert_eq!(rt; long.bytes.as_slice(), [7, 8, 9].as_slice());
+    assert_eq!(rt; long.mode, mode);
+    assert_eq!(rt; beside.bytes.as_slice(), [1, 2].as_slice());
     Ok(())
 }
 
@@ -206,7 +279,18 @@ fn real_files_fail_where_they_cannot_be_reached(rt: HostRuntime) -> Result<(), F
     Ok(())
 }
 
+/// How many of these passes of a gate return.
+fn passed<G: Gate>(gate: &G, passes: &[(u32, u32)]) -> usize {
+    let mut count = 0usize;
+    for (worker, block) in passes {
+        gate.pass(*worker, *block);
+        count = count.saturating_add(1);
+    }
+    count
+}
+
 #[test]
-fn the_open_gate_lets_pass(_rt: HostRuntime) {
-    OpenGate.pass(3, 7);
+fn the_open_gate_lets_each_worker_pass_each_block(rt: HostRuntime) {
+    let edges = [(0, 0), (31, 0), (0, u32::MAX), (31, u32::MAX)];
+    assert_eq!(rt; passed(&OpenGate, &edges), 4);
 }

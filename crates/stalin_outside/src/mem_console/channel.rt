@@ -1,9 +1,9 @@
-ghost use Rattle.std.specs.Prelude.{◌≡◌, ◌≤◌, ◌<◌, [], ◌∷◌, false, true, length, IfOk};
+ghost use Rattle.std.specs.Prelude.{◌≡◌, ◌≤◌, ◌<◌, [], ◌∷◌, false, true, length, IfOk, OnOk, OnErr};
 ghost use Rattle.std.specs.Bool.{OnTrue};
 ghost use Rattle.stalin_outside.specs.Calls.{after_call};
 ghost use Rattle.stalin_outside.specs.Causes.{HasCause};
 ghost use Rattle.stalin_outside.specs.Console.{Adds, answer_of_write};
-ghost use Rattle.stalin_outside.specs.Stream.{answered, call_fails, is_failure, out_answer, told, written};
+ghost use Rattle.stalin_outside.specs.Stream.{answered, call_fails, is_failure, out_answer, all_answers, written};
 
 use crate::calls::Calls;
 use crate::console::{Answer, Out};
@@ -64,6 +64,15 @@ impl Channel {
         })
     }
 
+    /// Lists the calls that are to fail, in the place of those listed before.
+    pub fn fail_at(&mut self, alloc: Global, calls: &[u64]) -> Result<(), AllocError>
+        ensures ok { OnOk result (self.new ≡ record self.old { calls = record self.old.calls { failing = calls.now } }) }
+        ensures err { OnErr result (self.new ≡ self.old) }
+    {
+        self.calls.failing = Numbers::from_slice(alloc, calls)?;
+        Ok(())
+    }
+
     pub fn bytes(&self) -> &[u8]
         ensures { result.now ≡ self.now.bytes }
     {
@@ -75,7 +84,7 @@ impl Channel {
         ensures answer { result ≡ call_fails self.old }
         ensures failed { OnTrue result (self.new ≡ answered Answer.Failed self.old) }
         ensures begun { result ≡ false → self.new ≡ record self.old { calls = after_call false self.old.calls } }
-        ensures told { OnTrue result (Adds Answer.Failed (told self.old) (told self.new)) }
+        ensures answers { OnTrue result (Adds Answer.Failed (all_answers self.old) (all_answers self.new)) }
         ensures cause { HasCause self.old.calls.failed self.new.calls.failed (result ≡ true) }
     {
         let listed = self.calls.count();
@@ -95,7 +104,7 @@ impl Channel {
     pub fn keep(&mut self, answer: Answer)
         requires { length self.old.answers < self.old.room }
         ensures state { self.new ≡ record self.old { answers = answer ∷ self.old.answers } }
-        ensures told { Adds answer (told self.old) (told self.new) }
+        ensures answers { Adds answer (all_answers self.old) (all_answers self.new) }
     {
         let _ = self.answers.push(answer);
     }
@@ -104,7 +113,7 @@ impl Channel {
     pub fn write(&mut self, byte: u8) -> Out
         ensures answer { result ≡ out_answer (call_fails self.old) }
         ensures state { self.new ≡ written byte result self.old }
-        ensures told { Adds (answer_of_write byte result) (told self.old) (told self.new) }
+        ensures answers { Adds (answer_of_write byte result) (all_answers self.old) (all_answers self.new) }
         ensures cause { HasCause self.old.calls.failed self.new.calls.failed (result ≡ Out.Failed) }
     {
         if self.refuses() {

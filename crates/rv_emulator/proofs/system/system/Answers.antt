@@ -2,7 +2,7 @@ use Rattle.std.proofs.Common.{[], ◌∷◌, refl, ap, ◌∙◌}
 use Rattle.std.specs.Prelude.{pos, negsuc}
 use Rattle.rv_form.specs.Machine.{received, system, with_reg}
 use Rattle.rv_emulator.specs.Memory.{memory_of}
-use Rattle.rv_emulator.specs.Passing.{Read, Write, Send, read_event_of}
+use Rattle.stalin_outside.specs.Transcript.{Read, Write, Send, read_event_of}
 use Rattle.rv_emulator.specs.States.{regs_of, state_of, world_with}
 use Rattle.rv_emulator.proofs.Systems.{answers_so, reads_so, writes_so, sends_so}
 use Rattle.rv_emulator.proofs.system.system.Goals as goal
@@ -44,7 +44,7 @@ pub returns-in-Reads-clause-plays : goal.returns-in-Reads-clause-plays
 returns-in-Reads-clause-plays g c =
     record {
       made = Read c.read_byte-answer.result ∷ [];
-      passes = (_, refl, c.read_byte-answer.ensures.call);
+      passes = (_, refl, (c.read_byte-answer.ensures.byte, c.read_byte-answer.ensures.call));
       runs = λ env calls gives.
           reads_so (world_with c.args.regions.now env) _ c.args.regions.now c.args.registers.now c.go_on-in-Reads.new.registers
           c.args.bytes.now c.read_byte-answer.new.bytes c.args.pc c.go_on-in-Reads.result calls c.read_byte-answer.result

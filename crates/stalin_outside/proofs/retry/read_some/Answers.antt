@@ -1,5 +1,5 @@
 use Rattle.std.proofs.Common.{take}
-use Rattle.stalin_outside.proofs.Known.{keeps_same, keeps_then_keeps, keeps_then_consumes}
+use Rattle.stalin_outside.proofs.Interrupted.{keeps_same, keeps_then_keeps, keeps_then_consumes}
 use Rattle.stalin_outside.proofs.retry.read_some.Goals as goal
 
 pub loop-turn-init : goal.loop-turn-init

@@ -2,7 +2,7 @@ use Rattle.std.proofs.Common.{ap}
 use Rattle.stalin_outside.specs.Calls.{next_fails}
 use Rattle.stalin_outside.specs.Shelf.{last_name}
 use Rattle.stalin_outside.specs.MemShelf.{left_of}
-use Rattle.stalin_outside.proofs.Told.{empties, appends}
+use Rattle.stalin_outside.proofs.FilesTold.{empties, appends}
 use Rattle.stalin_outside.proofs.mem_shelf.MemShelfShelf.TheImpl.Goals as goal
 
 pub begin_write-tells : goal.begin_write-tells

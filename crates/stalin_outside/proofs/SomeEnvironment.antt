@@ -4,17 +4,17 @@ use Rattle.scheme_base.specs.declared.env.Env.{Env}
 use Rattle.scheme_base.specs.Outside.{Event, ReadByte, ReadEnd, ReadFailed, Wrote, WriteFailed, Calls, no_calls, lists, read_event, items_after, write_event}
 use Rattle.stalin_outside.specs.declared.console.In.TheVariants as inputs
 use Rattle.stalin_outside.specs.declared.console.Out.TheVariants as writes
-use Rattle.rv_emulator.specs.Passing.{Call, Read, Write, Send, AnswersAs, after_call, calls_with, Gives}
-use Rattle.rv_emulator.specs.Answered.{events_in, sent_in, IsOf}
+use Rattle.stalin_outside.specs.Environment.{AnswersAs, with_call, calls_with, Gives, IsOf}
+use Rattle.stalin_outside.specs.Transcript.{Call, Read, Write, Send, events_in, sent_in}
 
 -- the items that were read, the oldest first
-abbrev items_in : List Event → List (Option ℕ)
+abbrev items_in : List Call → List (Option ℕ)
 items_in [] = []
-items_in (ReadByte byte ∷ earlier) = items_in earlier ++ Some byte ∷ []
-items_in (ReadEnd ∷ earlier) = items_in earlier ++ None ∷ []
-items_in (ReadFailed ∷ earlier) = items_in earlier
-items_in (Wrote byte ∷ earlier) = items_in earlier
-items_in (WriteFailed byte ∷ earlier) = items_in earlier
+items_in (Read (inputs.Byte byte) ∷ earlier) = items_in earlier ++ Some byte ∷ []
+items_in (Read inputs.End ∷ earlier) = items_in earlier ++ None ∷ []
+items_in (Read inputs.Failed ∷ earlier) = items_in earlier
+items_in (Write byte answer ∷ earlier) = items_in earlier
+items_in (Send byte answer ∷ earlier) = items_in earlier
 
 -- the numbers of the calls that failed
 abbrev failing_in : List Event → List ℕ
@@ -49,7 +49,7 @@ err_not_listed (Write byte answer ∷ earlier) k high = err_not_listed earlier k
 
 -- an environment that has these calls before it has the rest of its input
 record Has (env : Env) (made : List Call) (rest : List (Option ℕ)) : Type 0 where
-  pub input : env.input ≡ items_in (events_in made) ++ rest
+  pub input : env.input ≡ items_in made ++ rest
   pub failing : (k : ℕ) → k ≤ length (events_in made) → lists env.failing k ≡ lists (failing_in (events_in made)) k
   pub err_failing : (k : ℕ) → k ≤ length (sent_in made) → lists env.err_failing k ≡ lists (err_failing_in made) k
 
@@ -63,12 +63,12 @@ record Goes (env : Env) (made : List Call) (rest : List (Option ℕ)) : Type 0 w
 -- one call more
 one_more : (env : Env) (call : Call) (earlier : List Call) (before rest : List (Option ℕ)) → Goes env earlier before
     → AnswersAs env (left_with earlier before) call
-    → after_call env call (left_with earlier before) ≡ left_with (call ∷ earlier) rest
+    → with_call env call (left_with earlier before) ≡ left_with (call ∷ earlier) rest
     → Goes env (call ∷ earlier) rest
 one_more env call earlier before rest first answers left =
     record {
       gives = (first.gives, subst (λ calls. AnswersAs env calls call) (sym first.left) answers);
-      left = ap (after_call env call) first.left ∙ left;
+      left = ap (with_call env call) first.left ∙ left;
     }
 
 earlier_items : (items : List (Option ℕ)) (item : Option ℕ) (rest whole : List (Option ℕ)) → whole ≡ (items ++ item ∷ []) ++ rest
@@ -79,7 +79,7 @@ goes : (env : Env) (made : List Call) (rest : List (Option ℕ)) → Has env mad
 goes env [] rest has = record { gives = tt; left = ap (λ input. record { input = input; trace = []; sent = [] }) has.input }
 goes env (Read (inputs.Byte byte) ∷ earlier) rest has =
     let before : Has env earlier (Some byte ∷ rest) = record {
-      input = earlier_items (items_in (events_in earlier)) (Some byte) rest env.input has.input;
+      input = earlier_items (items_in earlier) (Some byte) rest env.input has.input;
       failing = λ k low. has.failing k (omega arith);
       err_failing = has.err_failing;
     } in
@@ -92,7 +92,7 @@ goes env (Read (inputs.Byte byte) ∷ earlier) rest has =
     (ap (λ b. record { input = items_after b (Some byte ∷ rest); trace = read_event b (Some byte ∷ rest) ∷ events_in earlier; sent = sent_in earlier }) next)
 goes env (Read inputs.End ∷ earlier) rest has =
     let before : Has env earlier (None ∷ rest) = record {
-      input = earlier_items (items_in (events_in earlier)) None rest env.input has.input;
+      input = earlier_items (items_in earlier) None rest env.input has.input;
       failing = λ k low. has.failing k (omega arith);
       err_failing = has.err_failing;
     } in
@@ -171,13 +171,13 @@ append_nothing (item ∷ items) = ap (λ l. item ∷ l) (append_nothing items)
 
 abbrev env_of : List Call → Env
 env_of made =
-    record { input = items_in (events_in made); failing = failing_in (events_in made); err_failing = err_failing_in made }
+    record { input = items_in made; failing = failing_in (events_in made); err_failing = err_failing_in made }
 
 pub some_env : (made : List Call) → (env : Env) × IsOf made env
 some_env made =
     let whole =
     goes (env_of made) made []
-    (record { input = append_nothing (items_in (events_in made)); failing = λ k low. refl; err_failing = λ k low. refl })
+    (record { input = append_nothing (items_in made); failing = λ k low. refl; err_failing = λ k low. refl })
     in (
       env_of made,
       record { gives = whole.gives; trace = ap (λ calls. calls.trace) whole.left; sent = ap (λ calls. calls.sent) whole.left },

@@ -1,44 +1,27 @@
 -- What a console tells after some calls is the trace.
-use Rattle.std.proofs.Common.{◌≡◌, ℕ, List, [], ◌∷◌, ◌++◌, Option, Some, None, refl, sym, ap, subst, ◌∙◌, append_assoc}
-use Rattle.std.specs.Prelude.{map}
+use Rattle.std.proofs.Common.{◌≡◌, ℕ, List, [], ◌∷◌, ◌++◌, Option, sym, ap, subst, ◌∙◌, arith}
+use Rattle.std.specs.Prelude.{◌%◌, map}
 use Rattle.std.specs.Option.{option_map}
+use Rattle.scheme_base.specs.Outside.{written}
 use Rattle.stalin_outside.specs.declared.console.In.TheVariants as inputs
 use Rattle.stalin_outside.specs.declared.console.Out.TheVariants as writes
 use Rattle.stalin_outside.specs.declared.console.Answer.{Answer}
 use Rattle.stalin_outside.specs.declared.console.Answer.TheVariants as answers
-use Rattle.stalin_outside.specs.Console.{Adds}
-use Rattle.rv_emulator.specs.Passing.{Call, Read, Write, Send, Told, Passes}
-use Rattle.rv_emulator.specs.Answered.{events_in, answer_of_event, sent_answers, written_in, errors_in, AddsAll, Shows}
-
-adds_nothing : (told : Option (List Answer)) → AddsAll [] told told
-adds_nothing None = tt
-adds_nothing (Some list) = refl
+use Rattle.stalin_outside.specs.Console.{Told, Adds, AddsAll}
+use Rattle.stalin_outside.proofs.Appended.{gains_nothing, gains_both, adds_nothing, adds_one, adds_both}
+use Rattle.stalin_outside.specs.Transcript.{Call, Read, Write, Send, Passes, events_in, answer_of_event, sent_answers, errors_in, Shows}
 
 adds_more : (answer : Answer) (more : List Answer) (before between now : Option (List Answer)) → AddsAll more before between
     → Adds answer between now → AddsAll (answer ∷ more) before now
-adds_more answer more before between None first one = tt
-adds_more answer more before None (Some now) first one = absurd one
-adds_more answer more None (Some between) (Some now) first one = absurd first
-adds_more answer more (Some before) (Some between) (Some now) first one = one ∙ ap (λ l. answer ∷ l) first
-
-append_none : (bytes : List ℕ) → bytes ≡ bytes ++ []
-append_none [] = refl
-append_none (byte ∷ bytes) = ap (λ l. byte ∷ l) (append_none bytes)
-
-gains_nothing : (told : Option (List ℕ)) → told ≡ option_map (λ bytes. bytes ++ []) told
-gains_nothing None = refl
-gains_nothing (Some bytes) = ap Some (append_none bytes)
+adds_more answer more before between now first one =
+    adds_both more (answer ∷ []) before between now first (adds_one answer between now one)
 
 gains_more : (byte : ℕ) (more : List ℕ) (before between now : Option (List ℕ))
     → between ≡ option_map (λ bytes. bytes ++ more) before
     → now ≡ option_map (λ bytes. bytes ++ byte ∷ []) between
     → now ≡ option_map (λ bytes. bytes ++ (more ++ byte ∷ [])) before
 gains_more byte more before between now first one =
-    one ∙ (ap (option_map (λ bytes. bytes ++ byte ∷ [])) first ∙ twice before)
-  where
-    twice : (before : Option (List ℕ)) → option_map (λ bytes. bytes ++ byte ∷ []) (option_map (λ bytes. bytes ++ more) before) ≡ option_map (λ bytes. bytes ++ (more ++ byte ∷ [])) before
-    twice None = refl
-    twice (Some bytes) = ap Some (append_assoc bytes more (byte ∷ []))
+    one ∙ (ap (option_map (λ bytes. bytes ++ byte ∷ [])) first ∙ gains_both more (byte ∷ []) before)
 
 pub shows : (made : List Call) (before now : Told) → Passes made before now → Shows made before now
 shows [] before now passes =
@@ -52,9 +35,12 @@ shows [] before now passes =
 shows (Read (inputs.Byte byte) ∷ earlier) before now passes =
     let between = passes.0 in
     let first = shows earlier before between passes.1 in
-    let one = passes.2 in
+    let one = passes.2.1 in
+    let small : byte ≡ byte % 256 = omega (arith, passes.2.0) in
     record {
-      answers = adds_more (answers.Byte byte) (map answer_of_event (events_in earlier)) before.answers between.answers now.answers first.answers one.answers;
+      answers =
+          subst (λ b. AddsAll (answers.Byte b ∷ map answer_of_event (events_in earlier)) before.answers now.answers) small
+          (adds_more (answers.Byte byte) (map answer_of_event (events_in earlier)) before.answers between.answers now.answers first.answers one.answers);
       err_answers = subst (AddsAll (sent_answers earlier) before.err_answers) (sym one.err_answers) first.err_answers;
       output = one.output ∙ first.output;
       errors = one.errors ∙ first.errors;
@@ -62,7 +48,7 @@ shows (Read (inputs.Byte byte) ∷ earlier) before now passes =
 shows (Read inputs.End ∷ earlier) before now passes =
     let between = passes.0 in
     let first = shows earlier before between passes.1 in
-    let one = passes.2 in
+    let one = passes.2.1 in
     record {
       answers = adds_more answers.End (map answer_of_event (events_in earlier)) before.answers between.answers now.answers first.answers one.answers;
       err_answers = subst (AddsAll (sent_answers earlier) before.err_answers) (sym one.err_answers) first.err_answers;
@@ -72,7 +58,7 @@ shows (Read inputs.End ∷ earlier) before now passes =
 shows (Read inputs.Failed ∷ earlier) before now passes =
     let between = passes.0 in
     let first = shows earlier before between passes.1 in
-    let one = passes.2 in
+    let one = passes.2.1 in
     record {
       answers = adds_more answers.Failed (map answer_of_event (events_in earlier)) before.answers between.answers now.answers first.answers one.answers;
       err_answers = subst (AddsAll (sent_answers earlier) before.err_answers) (sym one.err_answers) first.err_answers;
@@ -86,7 +72,7 @@ shows (Write byte writes.Took ∷ earlier) before now passes =
     record {
       answers = adds_more (answers.Took byte) (map answer_of_event (events_in earlier)) before.answers between.answers now.answers first.answers one.answers;
       err_answers = subst (AddsAll (sent_answers earlier) before.err_answers) (sym one.err_answers) first.err_answers;
-      output = gains_more byte (written_in (events_in earlier)) before.output between.output now.output first.output one.output;
+      output = gains_more byte (written (events_in earlier)) before.output between.output now.output first.output one.output;
       errors = one.errors ∙ first.errors;
     }
 shows (Write byte writes.Failed ∷ earlier) before now passes =

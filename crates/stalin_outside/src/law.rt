@@ -1,7 +1,8 @@
 ghost use Rattle.std.specs.Prelude.{List};
 ghost use Rattle.scheme_base.specs.declared.env.Env.{Env};
-ghost use Rattle.rv_emulator.specs.Answered.{IsOf, Shows};
-ghost use Rattle.rv_emulator.specs.Passing.{Call, Passes, Told};
+ghost use Rattle.stalin_outside.specs.Console.{Told};
+ghost use Rattle.stalin_outside.specs.Environment.{IsOf};
+ghost use Rattle.stalin_outside.specs.Transcript.{Call, Passes, Shows};
 
 /// The law of a console's answers: whatever they are, they are those of an environment, under which they
 /// are the trace of a run.
