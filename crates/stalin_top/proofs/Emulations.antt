@@ -3,7 +3,10 @@ use Rattle.std.proofs.Common.{ℕ, ◌+◌, ◌<◌, ◌≤◌, ◌^◌, length,
 use Rattle.scheme_base.specs.declared.env.Env.{Env}
 use Rattle.scheme_base.specs.Outside.{Calls, no_calls}
 use Rattle.scheme_base.specs.Runs.{after}
-use Rattle.stalin_outside.specs.Shelf.{Files}
+use Rattle.stalin_outside.specs.Shelf.{Files, SameFiles}
+use Rattle.stalin_outside.specs.Console.{Told}
+use Rattle.stalin_outside.specs.Environment.{IsOf, calls_with}
+use Rattle.stalin_outside.specs.Transcript.{Call, Passes, Shows}
 use Rattle.rv_form.specs.declared.image.Image.{Image as Loaded}
 use Rattle.rv_form.specs.declared.image.Segment.{Segment}
 use Rattle.rv_form.specs.Machine.{State, machine_in, world_of}
@@ -19,12 +22,11 @@ use Rattle.rv_emulator.specs.declared.next.RunEnd.TheVariants as comes
 use Rattle.rv_emulator.specs.Held.{Held, StartsAs, answer_in, run_in, settled, world_under}
 use Rattle.rv_emulator.specs.Held.{run_of as held_run}
 use Rattle.rv_emulator.specs.Loading.{AreFit, IsLoadable, room_of}
-use Rattle.rv_emulator.specs.Answered.{IsOf, Shows}
-use Rattle.rv_emulator.specs.Passing.{Call, Passes, Told, Plays, calls_with}
+use Rattle.rv_emulator.specs.Plays.{Plays}
 use Rattle.stalin_top.specs.declared.answer.Answer.{Answer}
 use Rattle.stalin_top.specs.declared.answer.Answer.TheVariants.{Done, Usage, TooLarge, FileFault, NotYet, BadImage, Spent, Trapped, Image, NoMemory}
-use Rattle.stalin_top.specs.Emulation.{run_of, IsAnswerTo, IsEmulated, IsRun, IsFile, Emulation, IsOfRun, ImageCauses}
-use Rattle.stalin_top.specs.Headline.{IfTold, IfUsage}
+use Rattle.stalin_top.specs.Emulate.{run_of, IsAnswerTo, IsEmulated, IsRun, IsFile, Emulation, IsOfRun, ImageCauses, IsAskedForImage, Emulates}
+use Rattle.stalin_top.specs.Outside.{Outside, IfTold}
 
 -- Loading
 
@@ -197,20 +199,13 @@ image_causes : (files : Option Files) (name : List ℕ) (steps : ℕ) (answer : 
 image_causes None name steps answer before now run = tt
 image_causes (Some files) name steps answer before now run = causes_of files name steps answer before now run
 
-pub causes_at : (files : Option Files) (name image : List ℕ) (steps : ℕ) (answer : Answer) (before now : Told)
-    → Emulation files name steps answer before now → name ≡ image → IfTold files (ImageCauses image answer)
-causes_at files name image steps answer before now run same =
-    subst (λ n. IfTold files (ImageCauses n answer)) same (image_causes files name steps answer before now run)
-
--- what is so of a usage answer
-pub where_usage : (answer : Answer) (P Q : Type 0) → (P → Q) → IfUsage answer P → IfUsage answer Q
-where_usage (Usage word) P Q to is = to is
-where_usage Done P Q to is = tt
-where_usage (TooLarge limit) P Q to is = tt
-where_usage FileFault P Q to is = tt
-where_usage (NotYet pos) P Q to is = tt
-where_usage (BadImage err) P Q to is = tt
-where_usage (Spent n) P Q to is = tt
-where_usage (Trapped kind pc) P Q to is = tt
-where_usage (Image status) P Q to is = tt
-where_usage NoMemory P Q to is = tt
+pub emulates : (name : List ℕ) (steps : ℕ) (answer : Answer) (before after : Outside) → SameFiles before.files after.files
+    → Emulation before.files name steps answer before.console after.console
+    → IsAskedForImage name answer before.asks after.asks → Emulates name steps answer before after
+emulates name steps answer before after files run asks =
+    record {
+      files = files;
+      run = run;
+      causes = image_causes before.files name steps answer before.console after.console run;
+      asks = asks;
+    }

@@ -1,5 +1,4 @@
-pub mod CommandLemmas
 pub mod Emulations
-pub mod FileLemmas
+pub mod Numbers
+pub mod OneWordMore
 pub mod Outcomes
-pub mod SendingLemmas

@@ -8,10 +8,11 @@ use Rattle.first_image.specs.First.{first_file}
 use Rattle.first_image.specs.Agrees.{Agrees}
 use Rattle.stalin_top.specs.declared.answer.Answer.{Answer}
 use Rattle.stalin_top.specs.declared.answer.Answer.TheVariants.{Done, Usage, TooLarge, FileFault, NotYet, BadImage, Spent, Trapped, Image, NoMemory}
-use Rattle.stalin_top.specs.declared.files.Reading.TheVariants as reads
-use Rattle.stalin_top.specs.declared.files.Writing.TheVariants as writes
-use Rattle.stalin_top.specs.Files.{ReadsFile, WritesFile, HoldsFront}
-use Rattle.stalin_top.specs.Headline.{IsCompiled, Outcome, Causes, IfTold, source_limit}
+use Rattle.stalin_outside.specs.declared.whole_files.Reading.TheVariants as reads
+use Rattle.stalin_outside.specs.declared.whole_files.Writing.TheVariants as writes
+use Rattle.stalin_outside.specs.WholeFiles.{ReadsFile, WritesFile, HoldsFront}
+use Rattle.stalin_top.specs.Compile.{IsCompiled, Outcome, Causes, IsAsked, Compiles, source_limit}
+use Rattle.stalin_top.specs.Outside.{Outside, IfTold}
 
 -- the image that is made of what was read is the compiled text
 pub compiled : (text chars bytes one other : List ℕ) → Reads text chars → one ≡ chars → other ≡ chars
@@ -157,3 +158,14 @@ pub causes : (before now : Option Files) (input output : List ℕ) (answer : Ans
 causes None now input output answer outcome = tt
 causes (Some before) None input output answer outcome = absurd outcome
 causes (Some before) (Some now) input output answer outcome = causes_of before now input output answer outcome
+
+pub compiles : (source image : List ℕ) (answer : Answer) (before after : Outside)
+    → WhereTold (Outcome source image answer) before.files after.files → IsAsked source image answer before.asks after.asks
+    → after.console ≡ before.console → Compiles source image answer before after
+compiles source image answer before after outcome asks console =
+    record {
+      outcome = outcome;
+      causes = causes before.files after.files source image answer outcome;
+      asks = asks;
+      console = console;
+    }

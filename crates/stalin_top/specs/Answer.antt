@@ -1,5 +1,5 @@
 -- The status of each answer, and the text that the command writes to the error channel.
-use Rattle.std.specs.Prelude.{ℕ, List, [], ◌∷◌, ◌++◌, codes, decimal}
+use Rattle.std.specs.Prelude.{ℕ, ◌≡◌, ◌⊎◌, List, [], ◌∷◌, ◌++◌, codes, decimal}
 use Rattle.scheme_base.specs.Limit.{name_of}
 use Rattle.elf_write.specs.declared.error.ElfErr.TheVariants as breaks
 use Rattle.stalin_top.specs.declared.answer.Answer.{Answer}
@@ -34,3 +34,7 @@ text_of (Spent steps) = codes "spent " ++ (decimal steps ++ 10 ∷ [])
 text_of (Trapped kind pc) = codes "trapped " ++ (decimal kind ++ (codes " at " ++ (decimal pc ++ 10 ∷ [])))
 text_of (Image status) = []
 text_of NoMemory = codes "no memory" ++ 10 ∷ []
+
+-- an answer is this one, but where a call of the shelf failed or memory was wanted
+abbrev pub Yields : (expected answer : Answer) → Type 0
+Yields expected answer = (answer ≡ expected) ⊎ (answer ≡ FileFault) ⊎ (answer ≡ NoMemory)

@@ -1,115 +1,148 @@
--- The grammar of a command's words.
+-- The grammar of a command's words, and what they say.
 --
 -- Words are counted from 1, without the program's own name. Word 1 names the command. A later word that
 -- begins with `--` is an option, and the next word is its value, whatever it begins with; all other words
--- are operands, in order.
-use Rattle.std.specs.Prelude.{◌≡◌, ℕ, zero, suc, ◌+◌, ◌^◌, Bool, true, false, not, ◌&&◌, leb, is_some, if◌then◌else◌, List, [], ◌∷◌, Option, Some, None, codes, decimal, nat_eq}
+-- are operands, in order. The first broken word from the left is told; a word that is missing has the
+-- number that the next one would have.
+use Rattle.std.specs.Prelude.{ℕ, ◌+◌, ◌%◌, ◌^◌, Bool, true, false, not, ◌&&◌, leb, is_some, if◌then◌else◌, List, [], ◌∷◌, ◌++◌, length, slice_get, Option, Some, None, Result, Ok, Err, codes, decimal, nat_eq, unwrap_or}
 use Rattle.std.specs.List.{starts_with}
+use Rattle.std.specs.Option.{option_map}
 use Rattle.std.specs.Str.{bytes_eq}
 use Rattle.std.specs.Str.Parse.{digits_value}
-use Rattle.stalin_top.specs.declared.command.Command.{Command}
-use Rattle.stalin_top.specs.declared.command.Command.TheVariants.{Compile, Emulate}
+use Rattle.stalin_top.specs.declared.shape.Operand.{Operand}
+use Rattle.stalin_top.specs.declared.shape.Operand.TheVariants.{File}
+use Rattle.stalin_top.specs.declared.shape.Options.{Options}
+use Rattle.stalin_top.specs.declared.shape.Range.{Range}
+use Rattle.stalin_top.specs.declared.shape.Setting.{Setting}
+use Rattle.stalin_top.specs.declared.shape.Setting.TheVariants.{Steps}
+use Rattle.stalin_top.specs.declared.shape.Settings.{Settings}
+use Rattle.stalin_top.specs.declared.shape.Verb.{Verb}
+use Rattle.stalin_top.specs.declared.shape.Verb.TheVariants as verbs
 
--- how many operands a command takes, and whether it takes the option `--steps`
-pub record Shape : Type 0 where
-  pub operands : ℕ
-  pub steps : Bool
+-- The table
 
--- the shape of the command that this word names
-abbrev pub shape_of : List ℕ → Option Shape
-shape_of name =
-    if bytes_eq name (codes "compile") then Some (record { operands = 2; steps = false })
-    else if bytes_eq name (codes "emulate") then Some (record { operands = 1; steps = true })
+abbrev pub verb_of : List ℕ → Option Verb
+verb_of name =
+    if bytes_eq name (codes "compile") then Some verbs.Compile
+    else if bytes_eq name (codes "emulate") then Some verbs.Emulate
     else None
+
+-- what a command takes: its operands in order, and its options
+pub record Shape : Type 0 where
+  pub operands : List Operand
+  pub options : Options
+
+abbrev pub shape_of : Verb → Shape
+shape_of verbs.Compile = record { operands = File ∷ File ∷ []; options = record { steps = false } }
+shape_of verbs.Emulate = record { operands = File ∷ []; options = record { steps = true } }
+
+abbrev pub setting_of : List ℕ → Option Setting
+setting_of word = if bytes_eq word (codes "--steps") then Some Steps else None
+
+-- which numbers may follow an option, and which one it is where the option is not given
+abbrev pub range_of : Setting → Range
+range_of Steps = record { least = 1; most = 10 ^ 18; multiple = 1 }
+
+abbrev pub default_of : Setting → ℕ
+default_of Steps = 10 ^ 9
+
+abbrev pub takes : Options → Setting → Bool
+takes options Steps = options.steps
+
+abbrev pub given : Settings → Setting → Option ℕ
+given settings Steps = settings.steps
+
+abbrev pub with_setting : Setting → ℕ → Settings → Settings
+with_setting Steps n settings = record settings { steps = Some n }
+
+abbrev pub value_of : Settings → Setting → ℕ
+value_of settings setting = unwrap_or (given settings setting) (default_of setting)
+
+-- The reading of the words
+
+-- the number of a range that a word is, in decimal without a leading 0
+abbrev pub is_in : Range → ℕ → Bool
+is_in range n = leb range.least n && (leb n range.most && nat_eq (n % range.multiple) 0)
+
+abbrev pub number_in : Range → List ℕ → Option ℕ
+number_in range word =
+    let n = digits_value 10 word in if bytes_eq word (decimal n) && is_in range n then Some n else None
+
+-- what the words so far say; `pending` is an option whose value comes next
+pub record Said : Type 0 where
+  pub operands : List (List ℕ)
+  pub settings : Settings
+  pub pending : Option Setting
+
+abbrev pub nothing_said : Said
+nothing_said = record { operands = []; settings = record { steps = None }; pending = None }
+
+-- what is said after one word more; None where it is broken
+
+abbrev pub with_value : Setting → List ℕ → Said → Option Said
+with_value setting word said =
+    option_map (λ n. record said { settings = with_setting setting n said.settings; pending = None })
+    (number_in (range_of setting) word)
+
+abbrev pub with_option : Options → Option Setting → Said → Option Said
+with_option options None said = None
+with_option options (Some setting) said =
+    if takes options setting && not (is_some (given said.settings setting)) then
+    Some (record said { pending = Some setting })
+    else None
+
+abbrev pub is_operand : Option Operand → List ℕ → Bool
+is_operand None word = false
+is_operand (Some File) [] = false
+is_operand (Some File) (byte ∷ bytes) = true
+
+abbrev pub with_operand : Option Operand → List ℕ → Said → Option Said
+with_operand operand word said =
+    if is_operand operand word then Some (record said { operands = said.operands ++ word ∷ [] }) else None
 
 abbrev pub is_option : List ℕ → Bool
 is_option word = starts_with nat_eq word (codes "--")
 
--- an operand is not empty, and is no option
-abbrev pub is_operand : List ℕ → Bool
-is_operand [] = false
-is_operand (b ∷ bytes) = not (is_option (b ∷ bytes))
+abbrev pub with_word : Shape → Option Setting → List ℕ → Said → Option Said
+with_word shape (Some setting) word said = with_value setting word said
+with_word shape None word said =
+    if is_option word then with_option shape.options (setting_of word) said
+    else with_operand (slice_get shape.operands (length said.operands)) word said
 
-abbrev pub is_steps : List ℕ → Bool
-is_steps word = bytes_eq word (codes "--steps")
+-- a command, as its words say it
+pub data Task : Type 0 where
+  Compile : (source image : List ℕ) → Task
+  Emulate : (image : List ℕ) (steps : ℕ) → Task
 
--- the number of steps that a word is: from 1 to 10^18, in decimal without a leading 0
-abbrev pub steps_in : List ℕ → Option ℕ
-steps_in word =
-    let n = digits_value 10 word in
-    if bytes_eq word (decimal n) && (leb 1 n && leb n (10 ^ 18)) then Some n else None
+-- what is to be done where no word is missing
+abbrev pub task_of : Verb → List (List ℕ) → Settings → Option Task
+task_of verbs.Compile (source ∷ image ∷ []) settings = Some (Compile source image)
+task_of verbs.Emulate (image ∷ []) settings = Some (Emulate image (value_of settings Steps))
+task_of verb operands settings = None
 
--- The first broken word of those after the command's name, of which the first has the number n, where so
--- many operands are still wanted, and `--steps` or its value may stand or must: a word that is neither
--- operand nor option of the command, a superfluous or repeated one, or the first that is missing.
-abbrev pub broken_in : (wanted : ℕ) (steps value : Bool) (n : ℕ) → List (List ℕ) → Option ℕ
-broken_in wanted steps true n [] = Some n
-broken_in wanted steps true n (word ∷ words) =
-    if is_some (steps_in word) then broken_in wanted steps false (n + 1) words else Some n
-broken_in zero steps false n [] = None
-broken_in (suc wanted) steps false n [] = Some n
-broken_in zero steps false n (word ∷ words) =
-    if steps && is_steps word then broken_in zero false true (n + 1) words else Some n
-broken_in (suc wanted) steps false n (word ∷ words) =
-    if steps && is_steps word then broken_in (suc wanted) false true (n + 1) words
-    else if is_operand word then broken_in wanted steps false (n + 1) words
-    else Some n
+abbrev pub task_said : Verb → (pending : Option Setting) → Said → Option Task
+task_said verb (Some setting) said = None
+task_said verb None said = task_of verb said.operands said.settings
 
-abbrev pub broken_after : Option Shape → List (List ℕ) → Option ℕ
-broken_after None words = Some 1
-broken_after (Some shape) words = broken_in shape.operands shape.steps false 2 words
+abbrev pub or_missing : (n : ℕ) → Option Task → Result Task ℕ
+or_missing n None = Err n
+or_missing n (Some task) = Ok task
 
--- the number of the first broken word, or of the first missing one
-abbrev pub broken_word : List (List ℕ) → Option ℕ
-broken_word [] = Some 1
-broken_word (name ∷ words) = broken_after (shape_of name) words
+abbrev pub go_on : (n : ℕ) → (Said → Result Task ℕ) → Option Said → Result Task ℕ
+go_on n rest None = Err n
+go_on n rest (Some said) = rest said
 
--- the operands among the words after the name
-abbrev pub operands_in : List (List ℕ) → List (List ℕ)
-operands_in [] = []
-operands_in (word ∷ []) = if is_option word then [] else word ∷ []
-operands_in (word ∷ value ∷ words) = if is_option word then operands_in words else word ∷ operands_in (value ∷ words)
+-- What words say that come after others and of which the first has the number n: what is to be done, or the
+-- number of the first word that is broken or missing.
+abbrev pub reading : Verb → (n : ℕ) → List (List ℕ) → Said → Result Task ℕ
+reading verb n [] said = or_missing n (task_said verb said.pending said)
+reading verb n (word ∷ words) said =
+    go_on n (reading verb (n + 1) words) (with_word (shape_of verb) said.pending word said)
 
--- the value of a word, where it is a number of steps; without the option it is 10^9
-abbrev pub steps_or_most : Option ℕ → ℕ
-steps_or_most (Some n) = n
-steps_or_most None = 10 ^ 9
+abbrev pub of_verb : Option Verb → List (List ℕ) → Result Task ℕ
+of_verb None words = Err 1
+of_verb (Some verb) words = reading verb 2 words nothing_said
 
--- the number of steps that the words after the name say
-abbrev pub steps_given : List (List ℕ) → ℕ
-steps_given [] = 10 ^ 9
-steps_given (word ∷ []) = 10 ^ 9
-steps_given (word ∷ value ∷ words) =
-    if is_steps word then steps_or_most (steps_in value) else steps_given (value ∷ words)
-
--- the words are `emulate` with this operand and so many steps
-pub record IsEmulate (words : List (List ℕ)) (image : List ℕ) (steps : ℕ) : Type 0 where
-  pub rest : List (List ℕ)
-  pub named : words ≡ codes "emulate" ∷ rest
-  pub operand : operands_in rest ≡ image ∷ []
-  pub given : steps ≡ steps_given rest
-
--- the words are those of a command
-abbrev pub Give : List (List ℕ) → Command → Type 0
-Give words (Compile source image) = words ≡ codes "compile" ∷ source.now ∷ image.now ∷ []
-Give words (Emulate image steps) = IsEmulate words image.now steps
-
--- there is no word, or one that is no operand
-abbrev pub IsNoOperand : Option (List ℕ) → Type 0
-IsNoOperand None = Unit {0}
-IsNoOperand (Some word) = is_operand word ≡ false
-
--- there is a word, and it is the option `--steps`
-abbrev pub is_steps_at : Option (List ℕ) → Bool
-is_steps_at None = false
-is_steps_at (Some word) = is_steps word
-
--- there is a word, and it is this number of steps
-abbrev pub IsValue : Option (List ℕ) → ℕ → Type 0
-IsValue None n = ⊥
-IsValue (Some word) n = steps_in word ≡ Some n
-
--- there is no word, or one that is no number of steps
-abbrev pub IsNoValue : Option (List ℕ) → Type 0
-IsNoValue None = Unit {0}
-IsNoValue (Some word) = steps_in word ≡ None
+abbrev pub task_in : List (List ℕ) → Result Task ℕ
+task_in [] = Err 1
+task_in (name ∷ words) = of_verb (verb_of name) words

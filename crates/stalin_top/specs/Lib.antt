@@ -1,7 +1,7 @@
 pub mod Answer
 pub mod Command
-pub mod Emulation
-pub mod Files
+pub mod Compile
+pub mod Emulate
+pub mod Given
 pub mod Headline
-pub mod Sending
-pub mod Shown
+pub mod Outside

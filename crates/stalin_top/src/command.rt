@@ -1,7 +1,10 @@
-ghost use Rattle.std.specs.Prelude.{◌≡◌, ◌≢◌, ◌+◌, ◌^◌, ◌<◌, true, Some, codes, IfOk, IfErr, OnOk, IsOk, slice_get};
-ghost use Rattle.stalin_top.specs.Command.{broken_word, is_operand, is_steps_at, steps_in, Give, IsNoOperand, IsValue, IsNoValue};
+//! Reading the words of a command from left to right, for every row of the table.
+ghost use Rattle.std.specs.Prelude.{◌≡◌, ◌<◌, drop, length, slice_get};
+ghost use Rattle.std.specs.Option.{option_map};
+ghost use Rattle.stalin_top.specs.Command.{nothing_said, reading, shape_of, setting_of, task_in, task_said, with_operand, with_option, with_value, with_word};
+ghost use Rattle.stalin_top.specs.Given.{read_as, said_by, task_by};
 
-use itoa::Buffer;
+use crate::shape::{Setting, Settings, Verb, is_operand};
 use scheme_base::Words;
 
 /// A command with its operands and options.
@@ -13,116 +16,134 @@ pub(crate) enum Command<'a> {
     Emulate { image: &'a str, steps: u64 },
 }
 
-/// How many steps `emulate` does at most where no word says it.
-const STEPS: u64 = 1_000_000_000;
-
-/// The most steps that a word may say.
-const MOST_STEPS: u64 = 1_000_000_000_000_000_000;
+/// What the words so far have said; `pending` is an option whose value comes next.
+#[derive(Clone, Copy, Debug)]
+struct Given<'a> {
+    first: Option<&'a str>,
+    second: Option<&'a str>,
+    settings: Settings,
+    pending: Option<Setting>,
+}
 
 /// The command that the words give, or the number of the first broken word.
 pub(crate) fn read_command(words: &Words) -> Result<Command<'_>, u32>
-    ensures command { IfOk result (Give words.now) }
-    ensures sound { IsOk result → broken_word words.now ≡ None }
-    ensures usage { IfErr result (λ word. broken_word words.now ≡ Some word) }
+    ensures { read_as result ≡ task_in words.now }
 {
     match words.word(0) {
-        Some(name) if name == "compile" => {
-            let source = operand(words, 1)?;
-            let image = operand(words, 2)?;
-            no_more(words, 3)?;
-            Ok(Command::Compile { source, image })
-        }
-        Some(name) if name == "emulate" => read_emulate(words),
-        _ => Err(1),
+        Some(name) => match Verb::named(name) {
+            Some(verb) => read_words(verb, words),
+            None => Err(1),
+        },
+        None => Err(1),
     }
 }
 
-/// The operand and the steps of a command `emulate`.
-fn read_emulate(words: &Words) -> Result<Command<'_>, u32>
-    requires { slice_get words.now 0 ≡ Some (codes "emulate") }
-    ensures command { IfOk result (Give words.now) }
-    ensures sound { IsOk result → broken_word words.now ≡ None }
-    ensures usage { IfErr result (λ word. broken_word words.now ≡ Some word) }
+/// What the words after the first say.
+fn read_words(verb: Verb, words: &Words) -> Result<Command<'_>, u32>
+    requires { 0 < length words.now }
+    ensures { read_as result ≡ reading verb 2 (drop 1 words.now) nothing_said }
 {
-    if is_option(words, 1) {
-        let steps = value(words, 2)?;
-        let image = operand(words, 3)?;
-        no_more(words, 4)?;
-        return Ok(Command::Emulate { image, steps });
-    }
-    let image = operand(words, 1)?;
-    if is_option(words, 2) {
-        let steps = value(words, 3)?;
-        no_more(words, 4)?;
-        return Ok(Command::Emulate { image, steps });
-    }
-    no_more(words, 2)?;
-    Ok(Command::Emulate {
-        image,
-        steps: STEPS,
-    })
-}
-
-/// Whether the word at `at`, counted from 0, is there and is the option `--steps`.
-fn is_option(words: &Words, at: usize) -> bool
-    ensures { result ≡ is_steps_at (slice_get words.now at) }
-{
-    match words.word(at) {
-        Some(word) => word == "--steps",
-        None => false,
-    }
-}
-
-/// The number of steps that the word at `at`, counted from 0, is.
-fn value(words: &Words, at: usize) -> Result<u64, u32>
-    requires { at + 1 < 2 ^ 32 }
-    ensures value { IfOk result (IsValue (slice_get words.now at)) }
-    ensures broken { IfErr result (λ number. IsNoValue (slice_get words.now at)) }
-    ensures number { IfErr result (λ number. number ≡ at + 1) }
-{
-    match words.word(at) {
-        Some(word) => steps_of(word).ok_or(at as u32 + 1),
-        None => Err(at as u32 + 1),
-    }
-}
-
-/// The number of steps that a word is.
-fn steps_of(word: &str) -> Option<u64>
-    ensures { result ≡ steps_in word.now }
-{
-    let Ok(steps) = word.parse::<u64>() else {
-        return None;
+    let mut given = Given {
+        first: None,
+        second: None,
+        settings: Settings { steps: None },
+        pending: None,
     };
-    let mut buffer = Buffer::new();
-    if word == buffer.format(steps) && 1 <= steps && steps <= MOST_STEPS {
-        Some(steps)
-    } else {
-        None
+    for at in 1..words.len() {
+        let word = words.word(at).unwrap_or("");
+        match given.with(verb, word) {
+            Some(more) => given = more,
+            None => return Err(at as u32 + 1),
+        }
     }
+    given.command(verb).ok_or(words.len() as u32 + 1)
 }
 
-/// The word at `at`, counted from 0, where it is an operand.
-fn operand(words: &Words, at: usize) -> Result<&str, u32>
-    requires { at + 1 < 2 ^ 32 }
-    ensures operand { IfOk result (λ word. slice_get words.now at ≡ Some word.now) }
-    ensures good { IfOk result (λ word. is_operand word.now ≡ true) }
-    ensures broken { IfErr result (λ number. IsNoOperand (slice_get words.now at)) }
-    ensures number { IfErr result (λ number. number ≡ at + 1) }
-{
-    match words.word(at) {
-        Some(word) if !word.is_empty() && !word.as_bytes().starts_with(b"--") => Ok(word),
-        _ => Err(at as u32 + 1),
+impl<'a> Given<'a> {
+    /// What is said with one word more; None where it is broken.
+    fn with(self, verb: Verb, word: &'a str) -> Option<Given<'a>>
+        ensures { option_map said_by result ≡ with_word (shape_of verb) self.entry.pending word.now (said_by self.entry) }
+    {
+        match self.pending {
+            Some(setting) => self.with_value(setting, word),
+            None if word.as_bytes().starts_with(b"--") => self.with_option(verb, word),
+            None => self.with_operand(verb, word),
+        }
     }
-}
 
-/// Refuses a word at `at`, counted from 0.
-fn no_more(words: &Words, at: usize) -> Result<(), u32>
-    requires { at + 1 < 2 ^ 32 }
-    ensures none { OnOk result (slice_get words.now at ≡ None) }
-    ensures number { IfErr result (λ number. (slice_get words.now at ≢ None) × (number ≡ at + 1)) }
-{
-    match words.word(at) {
-        Some(_) => Err(at as u32 + 1),
-        None => Ok(()),
+    fn with_value(self, setting: Setting, word: &'a str) -> Option<Given<'a>>
+        ensures { option_map said_by result ≡ with_value setting word.now (said_by self.entry) }
+    {
+        let value = setting.range().number(word)?;
+        Some(Given {
+            settings: self.settings.with(setting, value),
+            pending: None,
+            ..self
+        })
+    }
+
+    fn with_option(self, verb: Verb, word: &'a str) -> Option<Given<'a>>
+        ensures { option_map said_by result ≡ with_option (shape_of verb).options (setting_of word.now) (said_by self.entry) }
+    {
+        let setting = Setting::named(word)?;
+        if verb.options().takes(setting) && self.settings.given(setting).is_none() {
+            Some(Given {
+                pending: Some(setting),
+                ..self
+            })
+        } else {
+            None
+        }
+    }
+
+    fn with_operand(self, verb: Verb, word: &'a str) -> Option<Given<'a>>
+        ensures { option_map said_by result
+            ≡ with_operand (slice_get (shape_of verb).operands (length (said_by self.entry).operands)) word.now (said_by self.entry) }
+    {
+        let operands = verb.operands();
+        match self.first {
+            None => {
+                if !is_operand(operands.first(), word) {
+                    return None;
+                }
+                Some(Given {
+                    first: Some(word),
+                    second: None,
+                    ..self
+                })
+            }
+            Some(_) => {
+                if self.second.is_some() || !is_operand(operands.get(1), word) {
+                    return None;
+                }
+                Some(Given {
+                    second: Some(word),
+                    ..self
+                })
+            }
+        }
+    }
+
+    /// The command that is said, where no word is missing.
+    fn command(self, verb: Verb) -> Option<Command<'a>>
+        ensures { option_map task_by result ≡ task_said verb self.entry.pending (said_by self.entry) }
+    {
+        if self.pending.is_some() {
+            return None;
+        }
+        let first = self.first?;
+        match verb {
+            Verb::Compile => Some(Command::Compile {
+                source: first,
+                image: self.second?,
+            }),
+            Verb::Emulate => match self.second {
+                None => Some(Command::Emulate {
+                    image: first,
+                    steps: self.settings.steps(),
+                }),
+                Some(_) => None,
+            },
+        }
     }
 }

@@ -2,13 +2,12 @@ ghost use Rattle.std.specs.Prelude.{◌≡◌, ◌≤◌, ◌^◌, length, IfOk,
 ghost use Rattle.stalin_outside.specs.Causes.{HasCause};
 ghost use Rattle.stalin_outside.specs.Shelf.{WhereTold};
 ghost use Rattle.first_form.specs.Form.{HasFault};
-ghost use Rattle.stalin_top.specs.Headline.{IsCompiled, Outcome, IsAsked, IsNoUsage};
+ghost use Rattle.stalin_top.specs.Compile.{IsCompiled, Outcome, IsAsked};
 
 use crate::Answer;
-use crate::files::{Reading, Writing, read_file, write_file};
 use first_form::FirstErr;
 use scheme_base::{Limit, LimitKind};
-use stalin_outside::Shelf;
+use stalin_outside::{Reading, Shelf, Writing, read_file, write_file};
 use std::alloc::Global;
 
 /// The most bytes that a source may have.
@@ -20,25 +19,24 @@ const TOO_LARGE: Answer = Answer::TooLarge(Limit {
     count: MOST as u64 + 1,
 });
 
-/// Writes the image of the program in the file `input` to the file `output`.
-pub(crate) fn compile<H: Shelf>(alloc: Global, shelf: &mut H, input: &str, output: &str) -> Answer
-    ensures outcome { WhereTold (Outcome input.now output.now result) (H.files shelf.old) (H.files shelf.new) }
-    ensures asks { IsAsked input.now output.now result (H.asks shelf.old) (H.asks shelf.new) }
+/// Writes the image of the program in the file `source` to the file `image`.
+pub(crate) fn compile<H: Shelf>(alloc: Global, shelf: &mut H, source: &str, image: &str) -> Answer
+    ensures outcome { WhereTold (Outcome source.now image.now result) (H.files shelf.old) (H.files shelf.new) }
+    ensures asks { IsAsked source.now image.now result (H.asks shelf.old) (H.asks shelf.new) }
     ensures cause { HasCause (H.faults shelf.old) (H.faults shelf.new) (result ≡ Answer.FileFault) }
-    ensures command { IsNoUsage result }
 {
-    let source = match read_file(alloc, shelf, input, MOST) {
-        Reading::Whole(source) => source,
+    let text = match read_file(alloc, shelf, source, MOST) {
+        Reading::Whole(text) => text,
         Reading::TooLong => return TOO_LARGE,
         Reading::Fault => return Answer::FileFault,
         Reading::NoMemory => return Answer::NoMemory,
     };
-    let image = match build(alloc, source.as_slice()) {
-        Ok(image) => image,
+    let bytes = match build(alloc, text.as_slice()) {
+        Ok(bytes) => bytes,
         Err(FirstErr::NotYet { pos }) => return Answer::NotYet { pos },
         Err(FirstErr::NoMemory) => return Answer::NoMemory,
     };
-    match write_file(shelf, output, image.as_slice()) {
+    match write_file(shelf, image, bytes.as_slice()) {
         Writing::Done => Answer::Done,
         Writing::Fault => Answer::FileFault,
         Writing::NoMemory => Answer::NoMemory,

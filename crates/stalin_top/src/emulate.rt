@@ -1,16 +1,15 @@
 ghost use Rattle.std.specs.Prelude.{◌≡◌, ◌≤◌, ◌^◌, length};
 ghost use Rattle.stalin_outside.specs.Causes.{HasCause};
 ghost use Rattle.stalin_outside.specs.Shelf.{SameFiles};
-ghost use Rattle.rv_emulator.specs.Passing.{told};
-ghost use Rattle.stalin_top.specs.Emulation.{Emulation, IsAskedForImage, IsRun};
-ghost use Rattle.stalin_top.specs.Headline.{IsNoUsage};
+ghost use Rattle.stalin_top.specs.Emulate.{Emulation, IsAskedForImage, IsRun};
 
 use crate::Answer;
-use crate::files::{Reading, read_file};
 use elf_write::ElfErr;
-use rv_emulator::{RunEnd, answers_are_of_an_environment, console_shows_the_trace, load};
+use rv_emulator::{RunEnd, load};
 use scheme_base::{Limit, LimitKind};
-use stalin_outside::{Console, Shelf};
+use stalin_outside::{
+    Console, Reading, Shelf, answers_are_of_an_environment, console_shows_the_trace, read_file,
+};
 use std::alloc::Global;
 
 /// The most bytes that an image file may have.
@@ -33,12 +32,8 @@ pub(crate) fn emulate<H: Shelf, C: Console>(
     ensures files { SameFiles (H.files shelf.old) (H.files shelf.new) }
     ensures asks { IsAskedForImage image.now result (H.asks shelf.old) (H.asks shelf.new) }
     ensures cause { HasCause (H.faults shelf.old) (H.faults shelf.new) (result ≡ Answer.FileFault) }
-    ensures command { IsNoUsage result }
     ensures run { Emulation (H.files shelf.old) image.now steps result
-        (told (C.input console.old) (C.output console.old) (C.errors console.old) (C.answers console.old)
-        (C.err_answers console.old) (C.faults console.old) (C.err_faults console.old))
-        (told (C.input console.new) (C.output console.new) (C.errors console.new) (C.answers console.new)
-        (C.err_answers console.new) (C.faults console.new) (C.err_faults console.new)) }
+        (C.told console.old) (C.told console.new) }
 {
     match read_file(alloc, shelf, image, MOST) {
         Reading::Whole(file) => run(alloc, console, file.as_slice(), steps),
@@ -51,10 +46,7 @@ pub(crate) fn emulate<H: Shelf, C: Console>(
 /// Runs the image that the bytes of a file are.
 fn run<C: Console>(alloc: Global, console: &mut C, bytes: &[u8], steps: u64) -> Answer
     ensures { IsRun bytes.now steps result
-        (told (C.input console.old) (C.output console.old) (C.errors console.old) (C.answers console.old)
-        (C.err_answers console.old) (C.faults console.old) (C.err_faults console.old))
-        (told (C.input console.new) (C.output console.new) (C.errors console.new) (C.answers console.new)
-        (C.err_answers console.new) (C.faults console.new) (C.err_faults console.new)) }
+        (C.told console.old) (C.told console.new) }
 {
     let image = match elf_write::read(alloc, bytes) {
         Ok(image) => image,

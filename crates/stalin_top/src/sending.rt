@@ -1,21 +1,14 @@
-ghost use Rattle.std.specs.Prelude.{◌≡◌, false};
-ghost use Rattle.stalin_outside.specs.Causes.{HasCause};
+ghost use Rattle.stalin_outside.specs.Sending.{Sends};
 ghost use Rattle.stalin_top.specs.Answer.{text_of};
-ghost use Rattle.stalin_top.specs.Sending.{Sends, joined};
 
 use crate::Answer;
 use elf_write::ElfErr;
 use itoa::Buffer;
-use stalin_outside::{Console, Out};
+use stalin_outside::{Console, send, send_all};
 
 /// Writes an answer's text to the error channel, up to the first call that fails; tells whether none did.
 pub(crate) fn tell<C: Console>(console: &mut C, answer: &Answer) -> bool
-    ensures errors { Sends (C.errors console.old) (C.errors console.new) (text_of answer.now) result }
-    ensures input { C.input console.new ≡ C.input console.old }
-    ensures output { C.output console.new ≡ C.output console.old }
-    ensures answers { C.answers console.new ≡ C.answers console.old }
-    ensures faults { C.faults console.new ≡ C.faults console.old }
-    ensures cause { HasCause (C.err_faults console.old) (C.err_faults console.new) (result ≡ false) }
+    ensures { Sends (text_of answer.now) result (C.told console.old) (C.told console.new) }
 {
     let mut one = Buffer::new();
     let mut other = Buffer::new();
@@ -53,12 +46,7 @@ pub(crate) fn tell<C: Console>(console: &mut C, answer: &Answer) -> bool
 
 /// Writes which check the bytes of an image break to the error channel, up to the first call that fails.
 fn tell_break<C: Console>(console: &mut C, err: &ElfErr) -> bool
-    ensures errors { Sends (C.errors console.old) (C.errors console.new) (text_of (Answer.BadImage err.now)) result }
-    ensures input { C.input console.new ≡ C.input console.old }
-    ensures output { C.output console.new ≡ C.output console.old }
-    ensures answers { C.answers console.new ≡ C.answers console.old }
-    ensures faults { C.faults console.new ≡ C.faults console.old }
-    ensures cause { HasCause (C.err_faults console.old) (C.err_faults console.new) (result ≡ false) }
+    ensures { Sends (text_of (Answer.BadImage err.now)) result (C.told console.old) (C.told console.new) }
 {
     let mut buffer = Buffer::new();
     match err {
@@ -72,38 +60,4 @@ fn tell_break<C: Console>(console: &mut C, err: &ElfErr) -> bool
         ElfErr::Entry => send(console, b"bad image: 5\n"),
         ElfErr::NoMemory => send(console, b"no memory\n"),
     }
-}
-
-/// Writes the parts of a text to the error channel, up to the first call that fails.
-fn send_all<C: Console>(console: &mut C, parts: &[&[u8]]) -> bool
-    ensures errors { Sends (C.errors console.old) (C.errors console.new) (joined parts.now) result }
-    ensures input { C.input console.new ≡ C.input console.old }
-    ensures output { C.output console.new ≡ C.output console.old }
-    ensures answers { C.answers console.new ≡ C.answers console.old }
-    ensures faults { C.faults console.new ≡ C.faults console.old }
-    ensures cause { HasCause (C.err_faults console.old) (C.err_faults console.new) (result ≡ false) }
-{
-    for part in parts {
-        if !send(console, part) {
-            return false;
-        }
-    }
-    true
-}
-
-/// Writes a text to the error channel, up to the first call that fails.
-fn send<C: Console>(console: &mut C, text: &[u8]) -> bool
-    ensures errors { Sends (C.errors console.old) (C.errors console.new) text.now result }
-    ensures input { C.input console.new ≡ C.input console.old }
-    ensures output { C.output console.new ≡ C.output console.old }
-    ensures answers { C.answers console.new ≡ C.answers console.old }
-    ensures faults { C.faults console.new ≡ C.faults console.old }
-    ensures cause { HasCause (C.err_faults console.old) (C.err_faults console.new) (result ≡ false) }
-{
-    for byte in text {
-        if console.err(*byte) == Out::Failed {
-            return false;
-        }
-    }
-    true
 }

@@ -2,7 +2,7 @@ use Rattle.stalin_top.proofs.Outcomes.{too_large, done, faulted}
 use Rattle.stalin_top.proofs.compile.compile.Goals as goal
 
 pub returns-in-TooLong-clause-outcome : goal.returns-in-TooLong-clause-outcome
-returns-in-TooLong-clause-outcome g c = too_large _ _ _ c.args.output.now c.in-TooLong.ensures.content c.in-TooLong.ensures.files
+returns-in-TooLong-clause-outcome g c = too_large _ _ _ c.args.image.now c.in-TooLong.ensures.content c.in-TooLong.ensures.files
 
 pub returns-in-Done-clause-outcome : goal.returns-in-Done-clause-outcome
 returns-in-Done-clause-outcome g c =

@@ -1,5 +1,5 @@
 use Rattle.stalin_top.proofs.sending.tell.Goals as goal
 
-pub returns-in-Usage-clause-errors : goal.returns-in-Usage-clause-errors
-returns-in-Usage-clause-errors g c =
-    rw (c.in-Usage.is, ← c.format.ensures.text, ← c.as_bytes-word.ensures.value) c.send_all.ensures.errors
+pub returns-in-Usage : goal.returns-in-Usage
+returns-in-Usage g c =
+    rw (c.in-Usage.is, ← c.format.ensures.text, ← c.as_bytes-word.ensures.value) c.send_all.ensures

@@ -1,11 +1,11 @@
--- What `emulate IMAGE` promises: the machine's run, and the cause of each answer.
+-- What `emulate IMAGE --steps N` promises.
 --
 -- The words here are defined in the crates below: `HoldsImage` and `Breaks` are which image a file's bytes
 -- are and which check they fail first (elf_write), `machine` and `start` are the machine of an image and
 -- where it starts (rv_form), `Call` and `Passes` are the calls of a console and what they do to what it
 -- tells, `Gives` is that an environment answers so, `IsOf` that calls are the whole of a run's under an
--- environment, and `Shows` what a console tells after them (rv_emulator).
-use Rattle.std.specs.Prelude.{ℕ, ◌≡◌, ◌≢◌, ◌+◌, ◌<◌, ◌^◌, ◌⊎◌, List, ◌∷◌, length, Option, Some, None}
+-- environment, and `Shows` what a console tells after them (stalin_outside).
+use Rattle.std.specs.Prelude.{ℕ, ◌≡◌, ◌≢◌, ◌+◌, ◌<◌, ◌^◌, ◌⊎◌, List, ◌∷◌, length, Option, Some}
 use Rattle.scheme_base.specs.declared.env.Env.{Env}
 use Rattle.scheme_base.specs.declared.limit.Limit.{Limit}
 use Rattle.scheme_base.specs.declared.limit.LimitKind.TheVariants.{File}
@@ -13,20 +13,21 @@ use Rattle.scheme_base.specs.Outside.{Calls, no_calls}
 use Rattle.scheme_base.specs.Runs.{after}
 use Rattle.stalin_outside.specs.declared.shelf.Ask.{Ask}
 use Rattle.stalin_outside.specs.declared.shelf.Ask.TheVariants.{ToRead}
-use Rattle.stalin_outside.specs.Shelf.{Files}
+use Rattle.stalin_outside.specs.Shelf.{Files, SameFiles}
+use Rattle.stalin_outside.specs.Console.{Told}
+use Rattle.stalin_outside.specs.Environment.{IsOf, Gives, calls_with}
+use Rattle.stalin_outside.specs.Transcript.{Call, Passes, Shows}
+use Rattle.stalin_outside.specs.WholeFiles.{ReadsFile}
+use Rattle.stalin_outside.specs.declared.whole_files.Reading.TheVariants as reads
 use Rattle.rv_form.specs.declared.image.Image.{Image as Loaded}
 use Rattle.rv_form.specs.Machine.{Run, world_of, machine, start}
 use Rattle.rv_form.specs.Machine as runs
 use Rattle.elf_write.specs.declared.error.ElfErr.{ElfErr}
 use Rattle.elf_write.specs.declared.error.ElfErr.TheVariants as breaks
 use Rattle.elf_write.specs.Reading.{HoldsImage, Breaks}
-use Rattle.rv_emulator.specs.Answered.{IsOf, Shows}
 use Rattle.rv_emulator.specs.Held.{settled}
-use Rattle.rv_emulator.specs.Passing.{Call, Told, Passes, Gives, calls_with}
-use Rattle.stalin_top.specs.Command.{broken_word, IsEmulate}
-use Rattle.stalin_top.specs.Files.{ReadsFile}
-use Rattle.stalin_top.specs.Headline.{Yields}
-use Rattle.stalin_top.specs.declared.files.Reading.TheVariants as reads
+use Rattle.stalin_top.specs.Answer.{Yields}
+use Rattle.stalin_top.specs.Outside.{Outside, IfTold}
 use Rattle.stalin_top.specs.declared.answer.Answer.{Answer}
 use Rattle.stalin_top.specs.declared.answer.Answer.TheVariants.{TooLarge, FileFault, BadImage, Spent, Trapped, Image, NoMemory}
 
@@ -105,7 +106,8 @@ abbrev pub IsAskedForImage : (name : List ℕ) → Answer → (before now : List
 IsAskedForImage name NoMemory before now = (now ≡ before) ⊎ (now ≡ ToRead name ∷ before)
 IsAskedForImage name answer before now = now ≡ ToRead name ∷ before
 
--- of a command `emulate IMAGE --steps N` of which no word is broken this is so
-abbrev pub OnEmulate : (words : List (List ℕ)) → ((image : List ℕ) (steps : ℕ) → Type 0) → Type 0
-OnEmulate words P =
-    (image : List ℕ) (steps : ℕ) → IsEmulate words image steps → broken_word words ≡ None → P image steps
+pub record Emulates (name : List ℕ) (steps : ℕ) (answer : Answer) (before after : Outside) : Type 0 where
+  pub files : SameFiles before.files after.files
+  pub run : Emulation before.files name steps answer before.console after.console
+  pub causes : IfTold before.files (ImageCauses name answer)
+  pub asks : IsAskedForImage name answer before.asks after.asks

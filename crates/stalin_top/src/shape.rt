@@ -1,0 +1,176 @@
+//! The table of commands: what each one takes.
+ghost use Rattle.std.specs.Prelude.{◌≡◌, ◌<◌};
+ghost use Rattle.std.specs.Option.{option_copied};
+ghost use Rattle.stalin_top.specs.Command.{default_of, given, is_in, is_operand, number_in, range_of, setting_of, shape_of, takes, value_of, verb_of, with_setting};
+
+use itoa::Buffer;
+
+/// A command's name.
+#[derive(Clone, Copy, Debug, PartialEq, Eq)]
+pub(crate) enum Verb {
+    Compile,
+    Emulate,
+}
+
+/// What an operand is.
+#[derive(Clone, Copy, Debug, PartialEq, Eq)]
+pub(crate) enum Operand {
+    /// The name of a file.
+    File,
+}
+
+/// Which options a command takes.
+#[derive(Clone, Copy, Debug, PartialEq, Eq)]
+pub(crate) struct Options {
+    pub steps: bool,
+}
+
+/// An option, whose value is a number.
+#[derive(Clone, Copy, Debug, PartialEq, Eq)]
+pub(crate) enum Setting {
+    /// How many instructions an emulated image may do.
+    Steps,
+}
+
+/// The values of the options that are given.
+#[derive(Clone, Copy, Debug, PartialEq, Eq)]
+pub(crate) struct Settings {
+    pub steps: Option<u64>,
+}
+
+/// The multiples of a number from `least` to `most`.
+#[derive(Clone, Copy, Debug, PartialEq, Eq)]
+pub(crate) struct Range {
+    pub least: u64,
+    pub most: u64,
+    pub multiple: u64,
+}
+
+impl Verb {
+    /// The command that a word names.
+    pub fn named(word: &str) -> Option<Verb>
+        ensures { result ≡ verb_of word.now }
+    {
+        match word {
+            "compile" => Some(Verb::Compile),
+            "emulate" => Some(Verb::Emulate),
+            _ => None,
+        }
+    }
+
+    /// The command's operands, in order.
+    pub fn operands(self) -> &'static [Operand]
+        ensures { result.now ≡ (shape_of self).operands }
+    {
+        match self {
+            Verb::Compile => &[Operand::File, Operand::File],
+            Verb::Emulate => &[Operand::File],
+        }
+    }
+
+    pub fn options(self) -> Options
+        ensures { result ≡ (shape_of self).options }
+    {
+        match self {
+            Verb::Compile => Options { steps: false },
+            Verb::Emulate => Options { steps: true },
+        }
+    }
+}
+
+impl Options {
+    pub fn takes(self, setting: Setting) -> bool
+        ensures { result ≡ takes self setting }
+    {
+        match setting {
+            Setting::Steps => self.steps,
+        }
+    }
+}
+
+impl Setting {
+    /// The option that a word names.
+    pub fn named(word: &str) -> Option<Setting>
+        ensures { result ≡ setting_of word.now }
+    {
+        match word {
+            "--steps" => Some(Setting::Steps),
+            _ => None,
+        }
+    }
+
+    /// The values that the option may have.
+    pub fn range(self) -> Range
+        ensures range { result ≡ range_of self }
+        ensures some { 0 < result.multiple }
+    {
+        match self {
+            Setting::Steps => Range {
+                least: 1,
+                most: 1_000_000_000_000_000_000,
+                multiple: 1,
+            },
+        }
+    }
+}
+
+impl Settings {
+    /// The option's value, where it is given.
+    pub fn given(self, setting: Setting) -> Option<u64>
+        ensures { result ≡ given self setting }
+    {
+        match setting {
+            Setting::Steps => self.steps,
+        }
+    }
+
+    pub fn with(self, setting: Setting, value: u64) -> Settings
+        ensures { result ≡ with_setting setting value self }
+    {
+        match setting {
+            Setting::Steps => Settings { steps: Some(value) },
+        }
+    }
+
+    /// How many instructions an emulated image may do.
+    pub fn steps(self) -> u64
+        ensures { result ≡ value_of self Setting.Steps }
+    {
+        self.steps.unwrap_or(1_000_000_000)
+    }
+}
+
+impl Range {
+    fn has(self, number: u64) -> bool
+        requires { 0 < self.multiple }
+        ensures { result ≡ is_in self number }
+    {
+        self.least <= number && number <= self.most && number % self.multiple == 0
+    }
+
+    /// The number of this range that a word is, in decimal without a leading 0.
+    pub fn number(self, word: &str) -> Option<u64>
+        requires { 0 < self.multiple }
+        ensures { result ≡ number_in self word.now }
+    {
+        let Ok(number) = word.parse::<u64>() else {
+            return None;
+        };
+        let mut buffer = Buffer::new();
+        if word == buffer.format(number) && self.has(number) {
+            Some(number)
+        } else {
+            None
+        }
+    }
+}
+
+/// Whether a word can be this operand.
+pub(crate) fn is_operand(operand: Option<&Operand>, word: &str) -> bool
+    ensures { result ≡ is_operand (option_copied operand.entry) word.now }
+{
+    match operand {
+        Some(Operand::File) => !word.is_empty(),
+        None => false,
+    }
+}
