@@ -2,8 +2,8 @@
 use Rattle.std.proofs.Common.{◌≡◌, ℕ, ◌<◌, ◌^◌, List, [], ◌∷◌, length, Some, refl}
 use Rattle.scheme_base.specs.declared.env.Env.{Env}
 use Rattle.scheme_base.specs.Outside.{Ending}
-use Rattle.scheme_base.specs.Runs.{SameRuns}
-use Rattle.scheme_base.proofs.Runs.{Steady, Grows, same_runs, meets_by_turns}
+use Rattle.scheme_base.specs.Runs.{GrowsByOne, Lawful, SameRuns}
+use Rattle.scheme_base.proofs.Simulations.{same_runs, meets_by_turns}
 use Rattle.rv_form.specs.Machine.{machine, start}
 use Rattle.rv_form.proofs.Walk.{coded_machine}
 use Rattle.rv_form.proofs.Steadiness.{coded_is_steady}
@@ -23,7 +23,7 @@ form_trace : (failed : Bool) (rest : List ℕ) (calls : Calls) → source_trace 
 form_trace true rest calls = refl
 form_trace false rest calls = refl
 
-source_grows : (env : Env) (x : Source) → Grows (source_trace x) (source_trace (source_step env x))
+source_grows : (env : Env) (x : Source) → GrowsByOne (source_trace x) (source_trace (source_step env x))
 source_grows env (Going [] calls) = inl refl
 source_grows env (Going (char ∷ rest) calls) = inr (_, form_trace (next_fails env calls) rest (after_write env char calls))
 source_grows env (Stopped stop calls) = inl refl
@@ -32,7 +32,7 @@ source_stays : (env : Env) (x : Source) (e : Ending) → source_ending x ≡ Som
 source_stays env (Going forms calls) e h = cc
 source_stays env (Stopped stop calls) e h = refl
 
-source_is_steady : (env : Env) → Steady (source_machine env)
+source_is_steady : (env : Env) → Lawful (source_machine env)
 source_is_steady env = record { stays = source_stays env; grows = source_grows env }
 
 first_runs : (chars : List ℕ) (env : Env) → length chars < 2 ^ 30

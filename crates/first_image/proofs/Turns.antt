@@ -3,7 +3,7 @@ use Rattle.std.proofs.Common.{◌≡◌, ℕ, suc, ◌+◌, ◌%◌, ◌<◌, �
 use Rattle.std.specs.Prelude.{nat_eq, reverse}
 use Rattle.scheme_base.specs.declared.env.Env.{Env}
 use Rattle.scheme_base.specs.Outside.{Calls, no_calls, next_fails, after_write, after_send, Exits}
-use Rattle.scheme_base.proofs.Runs.{LooksAlike, Turn}
+use Rattle.scheme_base.proofs.Simulations.{LooksAlike, Turn}
 use Rattle.rv_form.specs.Image.{Reading}
 use Rattle.rv_form.specs.Machine.{State, Run, Running, Ended, start}
 use Rattle.rv_form.proofs.Distances.{far-near}

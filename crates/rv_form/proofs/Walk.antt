@@ -7,7 +7,7 @@ use Rattle.std.proofs.Common.{◌≡◌, ℕ, suc, ◌+◌, ◌-◌, ◌^◌, tr
 use Rattle.std.specs.Prelude.{ℤ, nat_eq}
 use Rattle.scheme_base.specs.Runs.{Machine, after}
 use Rattle.scheme_base.specs.Outside.{next_fails, after_write}
-use Rattle.scheme_base.proofs.Runs.{after-add}
+use Rattle.scheme_base.proofs.Simulations.{after-add}
 use Rattle.rv_form.specs.declared.instr.Instr.{Instr}
 use Rattle.rv_form.specs.declared.instr.Instr.TheVariants.{Beq, Bne, Ecall}
 use Rattle.rv_form.specs.Numbers.{add, word}
