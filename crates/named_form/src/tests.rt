@@ -3,7 +3,7 @@ ghost use Rattle.named_form.specs.Code.{Ends, Then, Const as Literal, If as Choi
 ghost use Rattle.named_form.specs.Written.{code};
 
 use crate::{Act, Block, Named, Plan, Proc, Step};
-use scheme_base::{List, Op, Pos};
+use scheme_base::{List, Pos};
 use sqlite_items::Items;
 use std::alloc::{AllocError, Global};
 use std::test::Fail;
@@ -55,118 +55,28 @@ fn block_is_its_steps(rt: HostRuntime) -> Result<(), Fail> {
     Ok(())
 }
 
-/// A procedure that takes `params`.
-fn proc(
-    alloc: Global,
-    params: &[u32],
-    steps: Vec<Step>,
-    value: Option<u32>,
-) -> Result<Proc, AllocError> {
-    Ok(Proc {
-        params: List::from_slice(alloc, params)?,
+/// The program without forms.
+fn empty(alloc: Global) -> Result<Named, AllocError> {
+    let program = Proc {
+        params: List::new(alloc),
         rest: None,
         body: Block {
-            steps: Items::from_vec(steps),
-            value,
+            steps: Items::new(alloc),
+            value: None,
         },
-        pos: Pos { line: 1, col: 1 },
-    })
-}
-
-/// `(define (f x) (lambda () (if x (f x) (%cons x x))))(f (%call/cc f))`
-fn nested(alloc: Global) -> Result<Named, AllocError> {
-    let main = vec![in alloc;
-        step(alloc, 0, Act::Closure { proc: 1 })?,
-        step(alloc, 1, Act::TopDefine { top: 0, from: 0 })?,
-        step(
-            alloc,
-            2,
-            Act::TopGet {
-                top: 0,
-                checked: false
-            }
-        )?,
-        step(
-            alloc,
-            3,
-            Act::TopGet {
-                top: 0,
-                checked: false
-            }
-        )?,
-        step(alloc, 4, Act::CallCC { operator: 3 })?,
-        step(
-            alloc,
-            5,
-            Act::Call {
-                operator: 2,
-                operands: List::from_slice(alloc, &[4])?
-            }
-        )?,
-    ]?;
-    let outer = vec![in alloc; step(alloc, 7, Act::Closure { proc: 2 })?]?;
-    let yes = Block {
-        steps: Items::from_vec(vec![in alloc;
-            step(
-                alloc,
-                9,
-                Act::TopGet {
-                    top: 0,
-                    checked: false
-                }
-            )?,
-            step(
-                alloc,
-                10,
-                Act::Call {
-                    operator: 9,
-                    operands: List::from_slice(alloc, &[6])?
-                }
-            )?,
-        ]?),
-        value: Some(10),
+        pos: Pos { line: 0, col: 0 },
     };
-    let no = Block {
-        steps: Items::from_vec(vec![in alloc;
-            step(
-                alloc,
-                11,
-                Act::Prim {
-                    op: Op::Cons,
-                    operands: List::from_slice(alloc, &[6, 6])?
-                }
-            )?,
-        ]?),
-        value: Some(11),
-    };
-    let inner = vec![in alloc; step(alloc, 8, Act::If { test: 6, yes, no })?]?;
-    let procs = vec![in alloc;
-        proc(alloc, &[], main, None)?,
-        proc(alloc, &[6], outer, Some(7))?,
-        proc(alloc, &[], inner, Some(8))?,
-    ]?;
     Ok(Named {
-        procs: List::from_vec(procs),
-        tops: 1,
+        procs: List::from_vec(vec![in alloc; program]?),
+        tops: 0,
         lits: List::new(alloc),
     })
 }
 
 #[test]
-fn plain_plan(rt: HostRuntime) -> Result<(), Fail> {
-    let alloc = rt.alloc();
-    let plan = Plan::plain(alloc, &nested(alloc)?)?;
-    assert_eq!(rt; plan.capturing.procs.as_slice(), [0, 1, 2].as_slice());
-    assert_eq!(rt; plan.capturing.recording.as_slice(), [4, 5].as_slice());
-    let kept = plan.slots.kept.get(2).ok_or("three procedures")?;
-    assert_eq!(rt; kept.as_slice(), [6].as_slice());
-    assert_eq!(rt; plan.slots.compared.as_slice(), [1, 2].as_slice());
-    let sizes = [
-        plan.marks.len(),
-        plan.reprs.vars.len(),
-        plan.reprs.blocks.len(),
-        plan.reprs.steps.len(),
-    ];
-    assert_eq!(rt; sizes, [4, 12, 5, 11]);
+fn every_procedure_has_its_kept_variables(rt: HostRuntime) -> Result<(), Fail> {
+    let named = empty(rt.alloc())?;
+    let plan = Plan::plain(rt.alloc(), &named)?;
+    assert_eq!(rt; plan.slots.kept.len(), 1);
     Ok(())
 }
