@@ -7,19 +7,20 @@ use Rattle.std.specs.Char.{is_ascii_whitespace}
 use Rattle.std.specs.List.{take_while, prefix_len}
 use Rattle.std.specs.Str.{str_to_ascii_lowercase}
 use Rattle.scheme_base.specs.declared.pos.Pos.{Pos}
-use Rattle.datum_form.specs.Grammar.{Delimited, Undelimited, NotNext, IsWord, IsCharacter, IsString, IsToken}
+use Rattle.datum_form.specs.Grammar.{Delimited, Undelimited, NotNext, IsWord, IsCharacter, IsString, IsToken, NumberOut, NeverEnds}
 use Rattle.datum_form.specs.Grammar.IsToken.{opens, opens_vector, closes, quote, quasiquote, splice, unquote, string, character, word}
 use Rattle.datum_form.specs.Syntax.{Token}
 use Rattle.datum_form.specs.Syntax.Atom.{Text, Character}
 use Rattle.datum_form.specs.Syntax.Mark.{Unquote}
 use Rattle.datum_form.specs.Syntax.Token.{Marking, Single}
-use Rattle.datum_form.specs.Text.{Piece, quoted, is_delimiter, run_length, word_piece, string_piece, piece}
-use Rattle.datum_form.specs.Text.Piece.{Found}
-use Rattle.datum_form.specs.Words.{begins_with, small_word, character_word}
-use Rattle.datum_form.specs.Words.Word.{IsToken as Is, NoWord}
+use Rattle.datum_form.specs.Text.{Piece, Quoted, quoted, is_delimiter, run_length, word_piece, string_piece, piece}
+use Rattle.datum_form.specs.Text.Piece.{Found, BadNumber, OpenText}
+use Rattle.datum_form.specs.Text.Quoted.{Closed, BadEscape, NeverClosed}
+use Rattle.datum_form.specs.Words.{Word, begins_with, small_word, character_word}
+use Rattle.datum_form.specs.Words.Word.{IsToken as Is, OutOfRange, NoWord}
 use Rattle.datum_form.proofs.Numerals.{same_byte}
-use Rattle.datum_form.proofs.Spelling.{word_read}
-use Rattle.datum_form.proofs.Strings.{character_read, string_read}
+use Rattle.datum_form.proofs.Spelling.{word_read, out_read}
+use Rattle.datum_form.proofs.Strings.{character_read, string_read, ended}
 
 -- Runs
 
@@ -86,89 +87,86 @@ no_mark : (p : Pos) (b : ℕ) (bytes : List ℕ) → NoMark b bytes → piece p 
 no_mark p b bytes m =
     rw (m.white, m.comment, m.opener, m.vector, m.closer, m.text, m.quoted, m.quasi, m.comma, m.char) refl
 
-no_token : (t : Token) → NoWord ≡ Is t → ⊥
-no_token t e = cc
-
 -- a byte that begins no word
-begins_none : (p : Pos) (k b : ℕ) (more : List ℕ) (t : Token) → IsWord p (str_to_ascii_lowercase (b ∷ more)) t
+begins_none : (p : Pos) (k b : ℕ) (more : List ℕ) → (small_word p (str_to_ascii_lowercase (b ∷ more)) ≡ NoWord → ⊥)
     → small_word p (str_to_ascii_lowercase (k ∷ more)) ≡ NoWord → nat_eq k b ≡ false
-begins_none p k b more t h none = at (nat_eq k b) refl
+begins_none p k b more some none = at (nat_eq k b) refl
   where
     at : (x : Bool) → nat_eq k b ≡ x → x ≡ false
     at false e = refl
-    at true e =
-        absurd
-        (no_token t
-        (sym none
-        ∙ (ap (λ c. small_word p (str_to_ascii_lowercase (c ∷ more))) (sym (same_byte k b e))
-        ∙ word_read p (str_to_ascii_lowercase (b ∷ more)) t h)))
+    at true e = absurd (some (ap (λ c. small_word p (str_to_ascii_lowercase (c ∷ more))) (same_byte k b e) ∙ none))
 
 undelimited_byte : (b : ℕ) → is_delimiter b ≡ false
     → (is_ascii_whitespace b ≡ false) × (nat_eq 40 b ≡ false) × (nat_eq 41 b ≡ false) × (nat_eq 34 b ≡ false) × (nat_eq 59 b ≡ false)
 undelimited_byte b h = (grind arith, grind arith, grind arith, grind arith, grind arith)
 
 -- a `#` and a byte that begin no word
-hash_none : (p : Pos) (k b : ℕ) (more after : List ℕ) (t : Token) → IsWord p (str_to_ascii_lowercase (b ∷ more)) t
+hash_none : (p : Pos) (k b : ℕ) (more after : List ℕ) → (small_word p (str_to_ascii_lowercase (b ∷ more)) ≡ NoWord → ⊥)
     → ((c : ℕ) (rest : List ℕ) → more ≡ c ∷ rest → nat_eq 35 b ≡ true → nat_eq k c ≡ false)
     → begins_with ((b ∷ more) ++ after) (35 ∷ k ∷ []) ≡ false
-hash_none p k b [] after t h next = rw (begins_none p 35 b [] t h refl) refl
-hash_none p k b (c ∷ rest) after t h next = at (nat_eq 35 b) refl
+hash_none p k b [] after some next = rw (begins_none p 35 b [] some refl) refl
+hash_none p k b (c ∷ rest) after some next = at (nat_eq 35 b) refl
   where
     at : (x : Bool) → nat_eq 35 b ≡ x → (x && (nat_eq k c && true)) ≡ false
     at false e = refl
     at true e = ap (λ y. y && true) (next c rest refl e)
 
-two_none : (p : Pos) (b c : ℕ) (rest : List ℕ) (t : Token) → IsWord p (str_to_ascii_lowercase (b ∷ c ∷ rest)) t
+two_none : (p : Pos) (b c : ℕ) (rest : List ℕ) → (small_word p (str_to_ascii_lowercase (b ∷ c ∷ rest)) ≡ NoWord → ⊥)
     → nat_eq 35 b ≡ true → nat_eq 92 c ≡ false
-two_none p b c rest t h hash = at (nat_eq 92 c) refl
+two_none p b c rest some hash = at (nat_eq 92 c) refl
   where
     at : (x : Bool) → nat_eq 92 c ≡ x → x ≡ false
     at false e = refl
     at true e =
         let none : small_word p (str_to_ascii_lowercase (35 ∷ 92 ∷ rest)) ≡ NoWord = refl in
         absurd
-        (no_token t
-        (sym none
-        ∙ (ap (λ d. small_word p (str_to_ascii_lowercase (35 ∷ d ∷ rest))) (sym (same_byte 92 c e))
-        ∙ (ap (λ d. small_word p (str_to_ascii_lowercase (d ∷ c ∷ rest))) (sym (same_byte 35 b hash))
-        ∙ word_read p (str_to_ascii_lowercase (b ∷ c ∷ rest)) t h))))
+        (some
+        (ap (λ d. small_word p (str_to_ascii_lowercase (d ∷ c ∷ rest))) (same_byte 35 b hash)
+        ∙ (ap (λ d. small_word p (str_to_ascii_lowercase (35 ∷ d ∷ rest))) (same_byte 92 c e) ∙ none)))
 
-word_marks : (p : Pos) (b : ℕ) (more after : List ℕ) (t : Token) → Undelimited (b ∷ more)
-    → IsWord p (str_to_ascii_lowercase (b ∷ more)) t → NoMark b (more ++ after)
-word_marks p b more after t u h =
+word_marks : (p : Pos) (b : ℕ) (more after : List ℕ) → Undelimited (b ∷ more)
+    → (small_word p (str_to_ascii_lowercase (b ∷ more)) ≡ NoWord → ⊥) → NoMark b (more ++ after)
+word_marks p b more after u some =
     let d = undelimited_byte b u.0 in
     record {
       white = d.0;
       comment = d.4;
       opener = d.1;
       vector =
-          hash_none p 40 b more after t h
+          hash_none p 40 b more after some
           (λ c rest e hash.
           let P : List ℕ → Type 0 = λ l. Undelimited l in (undelimited_byte c (subst P e u.1).0).1);
       closer = d.2;
       text = d.3;
-      quoted = begins_none p 39 b more t h refl;
-      quasi = begins_none p 96 b more t h refl;
-      comma = begins_none p 44 b more t h refl;
+      quoted = begins_none p 39 b more some refl;
+      quasi = begins_none p 96 b more some refl;
+      comma = begins_none p 44 b more some refl;
       char =
-          hash_none p 92 b more after t h
+          hash_none p 92 b more after some
           (λ c rest e hash.
-          let P : List ℕ → Type 0 = λ l. IsWord p (str_to_ascii_lowercase (b ∷ l)) t in
-          two_none p b c rest t (subst P e h) hash);
+          let P : List ℕ → Type 0 = λ l. small_word p (str_to_ascii_lowercase (b ∷ l)) ≡ NoWord → ⊥ in
+          two_none p b c rest (subst P e some) hash);
     }
 
-no_word : (p : Pos) (t : Token) → IsWord p [] t → ⊥
-no_word p t h = no_token t (word_read p [] t h)
+-- a run of bytes that is some word
+found_small : (p : Pos) (bytes after : List ℕ) (w : Word) → Undelimited bytes → Delimited after
+    → small_word p (str_to_ascii_lowercase bytes) ≡ w → (w ≡ NoWord → ⊥)
+    → piece p (bytes ++ after) ≡ word_piece w (length bytes)
+found_small p [] after w u d is some = absurd (some (sym is))
+found_small p (b ∷ more) after w u d is some =
+    let text : List ℕ = (b ∷ more) ++ after in
+    no_mark p b (more ++ after) (word_marks p b more after u (λ e. some (sym is ∙ e)))
+    ∙ (ap (small p text) (run_length-append (b ∷ more) after u d)
+    ∙ (ap (λ l. word_piece (small_word p (str_to_ascii_lowercase l)) (length (b ∷ more))) (take-append_seam (b ∷ more) after)
+    ∙ ap (λ v. word_piece v (length (b ∷ more))) is))
+
+token_word : (t : Token) → Is t ≡ NoWord → ⊥
+token_word t e = cc
 
 found_word : (p : Pos) (bytes after : List ℕ) (t : Token) → Undelimited bytes → Delimited after
     → IsWord p (str_to_ascii_lowercase bytes) t → piece p (bytes ++ after) ≡ Found t (length bytes)
-found_word p [] after t u d h = absurd (no_word p t h)
-found_word p (b ∷ more) after t u d h =
-    let text : List ℕ = (b ∷ more) ++ after in
-    no_mark p b (more ++ after) (word_marks p b more after t u h)
-    ∙ (ap (small p text) (run_length-append (b ∷ more) after u d)
-    ∙ (ap (λ l. word_piece (small_word p (str_to_ascii_lowercase l)) (length (b ∷ more))) (take-append_seam (b ∷ more) after)
-    ∙ ap (λ w. word_piece w (length (b ∷ more))) (word_read p (str_to_ascii_lowercase (b ∷ more)) t h)))
+found_word p bytes after t u d h =
+    found_small p bytes after (Is t) u d (word_read p (str_to_ascii_lowercase bytes) t h) (token_word t)
 
 found_character : (p : Pos) (b c : ℕ) (more after : List ℕ) → Undelimited more → Delimited after
     → IsCharacter (35 ∷ 92 ∷ b ∷ more) c
@@ -207,3 +205,31 @@ token_found p bytes after t (unquote q a h) = found_comma p after h
 token_found p bytes after t (string q a text read h) = found_string p text read after h
 token_found p bytes after t (character q a b more c u d h) = found_character p b c more after u d h
 token_found p bytes after t (word q a w u undelimited d h) = found_word p bytes after t undelimited d h
+
+-- What stops a text is no piece of it
+
+out_word : OutOfRange ≡ NoWord → ⊥
+out_word e = cc
+
+pub out_found : (p : Pos) (text : List ℕ) → NumberOut text → piece p text ≡ BadNumber
+out_found p text n =
+    ap (piece p) n.whole
+    ∙ found_small p n.word n.after OutOfRange n.undelimited n.delimited
+    (out_read p (str_to_ascii_lowercase n.word) n.value n.is_number n.out) out_word
+
+closed_open : (bytes : List ℕ) (n : ℕ) → Closed bytes n ≡ NeverClosed → ⊥
+closed_open bytes n e = cc
+
+escape_open : BadEscape ≡ NeverClosed → ⊥
+escape_open e = cc
+
+pub open_found : (p : Pos) (text : List ℕ) → NeverEnds text → piece p text ≡ OpenText
+open_found p text n = ap (piece p) n.begins ∙ ap (string_piece p) (is (quoted false n.inside) refl)
+  where
+    is_ended : (quoted false n.inside ≡ NeverClosed → ⊥) → ⊥
+    is_ended h = let r = ended n.inside h in n.unclosed r.body r.after r.is r.whole
+
+    is : (q : Quoted) → quoted false n.inside ≡ q → q ≡ NeverClosed
+    is (Closed bytes k) e = absurd (is_ended (λ h. closed_open bytes k (sym e ∙ h)))
+    is BadEscape e = absurd (is_ended (λ h. escape_open (sym e ∙ h)))
+    is NeverClosed e = refl

@@ -6,7 +6,7 @@ use Rattle.std.proofs.lemmas.Slice.Eq.{bytes_eq-Decides}
 use Rattle.scheme_base.specs.declared.pos.Pos.{Pos}
 use Rattle.scheme_base.specs.Integers.{in_range}
 use Rattle.std.proofs.lemmas.Option.{none-some}
-use Rattle.datum_form.specs.Grammar.{IsWord}
+use Rattle.datum_form.specs.Grammar.{IsWord, IsNumber}
 use Rattle.datum_form.specs.Grammar.IsWord.{dot, true_word, false_word, number, name}
 use Rattle.datum_form.specs.Syntax.{Token}
 use Rattle.datum_form.specs.Syntax.Atom.{Integer, Boolean, Name}
@@ -162,3 +162,42 @@ word_written p text t h =
     at false false true hd hy hn e =
         respelled p text (codes "#f") t (Single p (Boolean false)) (same_bytes text (codes "#f") hn) e (false_word p)
     at false false false hd hy hn e = other_written p text t (number_of text) refl e
+
+-- Numbers out of range
+
+pub out_read : (p : Pos) (text : List ℕ) (z : ℤ) → IsNumber text z → in_range z ≡ false → small_word p text ≡ OutOfRange
+out_read p text z h range =
+    let is = number_read text z h in
+    small_else p text (λ e. none-some z (sym (ap number_of e) ∙ is)) (λ e. none-some z (sym (ap number_of e) ∙ is))
+    (λ e. none-some z (sym (ap number_of e) ∙ is))
+    ∙ (ap (number_or_name p text) is ∙ ap (λ b. cond b (IsToken (Single p (Integer z))) OutOfRange) range)
+
+pub record Out (text : List ℕ) : Type 0 where
+  pub value : ℤ
+  pub is_number : IsNumber text value
+  pub out : in_range value ≡ false
+
+name_in_range : (p : Pos) (text : List ℕ) (b : Bool) → cond b (IsToken (Single p (Name text))) NoWord ≡ OutOfRange → ⊥
+name_in_range p text true e = cc
+name_in_range p text false e = cc
+
+other_out : (p : Pos) (text : List ℕ) (o : Option ℤ) → number_of text ≡ o → number_or_name p text o ≡ OutOfRange → Out text
+other_out p text None e h = absurd (name_in_range p text (is_name text) h)
+other_out p text (Some z) e h = at (in_range z) refl h
+  where
+    at : (b : Bool) → in_range z ≡ b → cond b (IsToken (Single p (Integer z))) OutOfRange ≡ OutOfRange → Out text
+    at true r f = absurd (cc)
+    at false r f = record { value = z; is_number = number_written text z e; out = r }
+
+pub out_written : (p : Pos) (text : List ℕ) → small_word p text ≡ OutOfRange → Out text
+out_written p text h =
+    at (bytes_eq text (codes ".")) (bytes_eq text (codes "#t")) (bytes_eq text (codes "#f")) h
+  where
+    at : (d y n : Bool)
+        → cond d (IsToken (Dot p)) (cond y (IsToken (Single p (Boolean true)))
+        (cond n (IsToken (Single p (Boolean false))) (number_or_name p text (number_of text)))) ≡ OutOfRange
+        → Out text
+    at true y n e = absurd (cc)
+    at false true n e = absurd (cc)
+    at false false true e = absurd (cc)
+    at false false false e = other_out p text (number_of text) refl e

@@ -6,8 +6,9 @@ use Rattle.std.specs.Char.{to_ascii_lowercase}
 use Rattle.std.specs.Str.{bytes_eq, str_to_ascii_lowercase}
 use Rattle.std.proofs.lemmas.Slice.Eq.{bytes_eq-Decides}
 use Rattle.scheme_base.specs.declared.pos.Pos.{Pos}
-use Rattle.datum_form.specs.Grammar.{IsCharacter, IsString}
+use Rattle.datum_form.specs.Grammar.{IsCharacter, IsString, IsInside}
 use Rattle.datum_form.specs.Grammar.IsCharacter.{itself, space, newline}
+use Rattle.datum_form.specs.Grammar.IsInside.{at_start, plain_byte, escaped_byte}
 use Rattle.datum_form.specs.Grammar.IsString.{empty, plain, escaped_quote, escaped_backslash}
 use Rattle.datum_form.specs.Syntax.{Token}
 use Rattle.datum_form.specs.Syntax.Atom.{Character}
@@ -15,7 +16,7 @@ use Rattle.datum_form.specs.Syntax.Token.{Single}
 use Rattle.datum_form.specs.Text.{Quoted, quoted, with_byte, with_bad_escape, after_backslash}
 use Rattle.datum_form.specs.Text.Quoted.{Closed, BadEscape, NeverClosed}
 use Rattle.datum_form.specs.Words.{named_character, character_word}
-use Rattle.datum_form.specs.Words.Word.{IsToken, NoWord}
+use Rattle.datum_form.specs.Words.Word.{IsToken, OutOfRange, NoWord}
 
 -- Characters
 
@@ -79,6 +80,20 @@ character_written p b (d ∷ rest) t h =
 
 not_same : (b k : ℕ) → b ≢ k → (b == k) ≡ false
 not_same b k h = grind arith
+
+pub character_in_range : (p : Pos) (text : List ℕ) → character_word p text ≡ OutOfRange → ⊥
+character_in_range p text e =
+    let small : List ℕ = str_to_ascii_lowercase text in
+    at (length text == 3) (bytes_eq small (codes "#\\space")) (bytes_eq small (codes "#\\newline")) e
+  where
+    at : (three space_name newline_name : Bool)
+        → cond three (IsToken (Single p (Character (slice_index text 2))))
+        (cond space_name (IsToken (Single p (Character 32))) (cond newline_name (IsToken (Single p (Character 10))) NoWord)) ≡ OutOfRange
+        → ⊥
+    at true s n h = cc
+    at false true n h = cc
+    at false false true h = cc
+    at false false false h = cc
 
 pub string_read : (text bytes rest : List ℕ) → IsString text bytes
     → quoted false (text ++ 34 ∷ rest) ≡ Closed bytes (length text + 1)
@@ -216,3 +231,93 @@ string_written (b ∷ c ∷ text) bytes n e =
     at false false hx hy h one two =
         let w = with_byte_is b (quoted false (c ∷ text)) bytes n h in
         one_byte b n (c ∷ text) bytes (differs b 34 hx) (differs b 92 hy) w (one w.read w.k w.is)
+
+-- Strings that are never closed
+
+with_byte_open : (b : ℕ) (q : Quoted) → with_byte b q ≡ NeverClosed → q ≡ NeverClosed
+with_byte_open b (Closed bytes n) e = absurd (cc)
+with_byte_open b BadEscape e = absurd (cc)
+with_byte_open b NeverClosed e = refl
+
+after_backslash_open : (q : Quoted) → after_backslash q ≡ NeverClosed → q ≡ NeverClosed
+after_backslash_open (Closed bytes n) e = absurd (cc)
+after_backslash_open BadEscape e = absurd (cc)
+after_backslash_open NeverClosed e = refl
+
+bad_escape_open : (q : Quoted) → with_bad_escape q ≡ NeverClosed → q ≡ NeverClosed
+bad_escape_open (Closed bytes n) e = absurd (cc)
+bad_escape_open BadEscape e = absurd (cc)
+bad_escape_open NeverClosed e = refl
+
+escape_open : (b : ℕ) (x : Bool) (q : Quoted) → cond x (with_byte b q) (with_bad_escape q) ≡ NeverClosed → q ≡ NeverClosed
+escape_open b true q e = with_byte_open b q e
+escape_open b false q e = bad_escape_open q e
+
+escape_never : (b : ℕ) (x : Bool) → cond x (with_byte b NeverClosed) (with_bad_escape NeverClosed) ≡ NeverClosed
+escape_never b true = refl
+escape_never b false = refl
+
+plain_step : (b : ℕ) (text : List ℕ) → b ≢ 34 → b ≢ 92 → quoted false (b ∷ text) ≡ with_byte b (quoted false text)
+plain_step b text q s =
+    ap (λ x. cond x (Closed [] 1) (cond (b == 92) (after_backslash (quoted true text)) (with_byte b (quoted false text)))) (not_same b 34 q)
+    ∙ ap (λ x. cond x (after_backslash (quoted true text)) (with_byte b (quoted false text))) (not_same b 92 s)
+
+pub closed : (body after : List ℕ) → IsInside body → quoted false (body ++ 34 ∷ after) ≡ NeverClosed → ⊥
+closed body after at_start e = cc
+closed body after (plain_byte b text q s h) e =
+    let tail : List ℕ = text ++ 34 ∷ after in
+    closed text after h (with_byte_open b (quoted false tail) (sym (plain_step b tail q s) ∙ e))
+closed body after (escaped_byte b text h) e =
+    let tail : List ℕ = text ++ 34 ∷ after in
+    closed text after h (escape_open b (b == 34 || b == 92) (quoted false tail) (after_backslash_open (quoted true (b ∷ tail)) e))
+
+-- a string that is closed, with good escapes or bad
+pub record Ended (text : List ℕ) : Type 0 where
+  pub body : List ℕ
+  pub after : List ℕ
+  pub whole : text ≡ body ++ 34 ∷ after
+  pub is : IsInside body
+
+end_here : (b : ℕ) (text : List ℕ) → (b == 34) ≡ true → Ended (b ∷ text)
+end_here b text h =
+    record { body = []; after = text; whole = ap (λ c. c ∷ text) (same_byte b 34 h); is = at_start }
+
+pub ended : (text : List ℕ) → (quoted false text ≡ NeverClosed → ⊥) → Ended text
+ended [] h = absurd (h refl)
+ended (b ∷ []) h = at (b == 34) (b == 92) refl h
+  where
+    at : (x y : Bool) → (b == 34) ≡ x
+        → (cond x (Closed [] 1) (cond y (after_backslash NeverClosed) (with_byte b NeverClosed)) ≡ NeverClosed → ⊥)
+        → Ended (b ∷ [])
+    at true y hx k = end_here b [] hx
+    at false true hx k = absurd (k refl)
+    at false false hx k = absurd (k refl)
+ended (b ∷ c ∷ text) h = at (b == 34) (b == 92) refl refl h (ended (c ∷ text)) (ended text)
+  where
+    at : (x y : Bool) → (b == 34) ≡ x → (b == 92) ≡ y
+        → (cond x (Closed [] 1) (cond y (after_backslash (quoted true (c ∷ text))) (with_byte b (quoted false (c ∷ text)))) ≡ NeverClosed → ⊥)
+        → ((quoted false (c ∷ text) ≡ NeverClosed → ⊥) → Ended (c ∷ text))
+        → ((quoted false text ≡ NeverClosed → ⊥) → Ended text) → Ended (b ∷ c ∷ text)
+    at true y hx hy k one two = end_here b (c ∷ text) hx
+    at false true hx hy k one two =
+        let is_escape : Bool = c == 34 || c == 92 in
+        let r =
+        two
+        (λ e.
+        k
+        (ap after_backslash
+        (ap (λ q. cond is_escape (with_byte c q) (with_bad_escape q)) e ∙ escape_never c is_escape))) in
+        record {
+          body = 92 ∷ c ∷ r.body;
+          after = r.after;
+          whole = ap (λ d. d ∷ c ∷ text) (same_byte b 92 hy) ∙ ap (λ l. 92 ∷ c ∷ l) r.whole;
+          is = escaped_byte c r.body r.is;
+        }
+    at false false hx hy k one two =
+        let r = one (λ e. k (ap (with_byte b) e)) in
+        record {
+          body = b ∷ r.body;
+          after = r.after;
+          whole = ap (λ l. b ∷ l) r.whole;
+          is = plain_byte b r.body (differs b 34 hx) (differs b 92 hy) r.is;
+        }

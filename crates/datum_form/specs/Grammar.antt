@@ -151,3 +151,28 @@ pub data IsTokens : Pos → List ℕ → List Token → Type 0 where
 -- a whole text is these tokens
 abbrev pub IsSpelled : List ℕ → List Token → Type 0
 IsSpelled text ts = IsTokens (record { line = 1; col = 1 }) text ts
+
+-- What stops a text
+
+-- a text begins with a number that is out of range and goes on to a delimiter
+pub record NumberOut (text : List ℕ) : Type 0 where
+  pub word : List ℕ
+  pub after : List ℕ
+  pub whole : text ≡ word ++ after
+  pub undelimited : Undelimited word
+  pub delimited : Delimited after
+  pub value : ℤ
+  pub is_number : IsNumber (str_to_ascii_lowercase word) value
+  pub out : in_range value ≡ false
+
+-- what stands in a string, with good escapes or bad: a `\` takes the next byte along, whatever it is
+pub data IsInside : List ℕ → Type 0 where
+  at_start : IsInside []
+  plain_byte : (b : ℕ) (text : List ℕ) → b ≢ byte "\"" → b ≢ byte "\\" → IsInside text → IsInside (b ∷ text)
+  escaped_byte : (b : ℕ) (text : List ℕ) → IsInside text → IsInside (byte "\\" ∷ b ∷ text)
+
+-- a text begins with a string that is never closed
+pub record NeverEnds (text : List ℕ) : Type 0 where
+  pub inside : List ℕ
+  pub begins : text ≡ byte "\"" ∷ inside
+  pub unclosed : (body after : List ℕ) → IsInside body → inside ≡ body ++ byte "\"" ∷ after → ⊥

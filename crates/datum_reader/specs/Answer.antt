@@ -10,7 +10,7 @@ use Rattle.datum_form.specs.Data.{Items, data_of, unplaced_all}
 use Rattle.datum_form.specs.Print.{lines_of}
 use Rattle.datum_form.specs.Stands.{Holds}
 use Rattle.datum_form.specs.declared.datums.Datums.{Datums}
-use Rattle.datum_form.specs.Grammar.{IsSpelled, IsToken}
+use Rattle.datum_form.specs.Grammar.{IsSpelled, IsToken, IsTokens, NumberOut, NeverEnds}
 use Rattle.datum_form.specs.Faults.{Strays, Deepens, Unclosed as UnclosedTokens}
 use Rattle.datum_form.specs.Text.{Ending, Lexed, lexed}
 use Rattle.datum_form.specs.Text.Ending.{Clean, BadAt, RangeAt, OpenAt}
@@ -50,14 +50,25 @@ stop_of (BadAt p) = Some p
 stop_of (RangeAt p) = Some p
 stop_of (OpenAt p) = Some p
 
--- no token of the grammar begins at this place of a text that begins at that one
-pub record NoToken (start : Pos) (text : List ℕ) (p : Pos) : Type 0 where
+-- why the tokens of a text stop before these bytes: a number out of range, a string that is never closed, or
+-- neither of these
+abbrev pub Causes : Ending → List ℕ → Type 0
+Causes Clean rest = ⊥
+Causes (BadAt p) rest = (NumberOut rest → ⊥) × (NeverEnds rest → ⊥)
+Causes (RangeAt p) rest = NumberOut rest
+Causes (OpenAt p) rest = NeverEnds rest
+
+-- the tokens of a text that begins at one place stop at another: what stands before that place is these tokens,
+-- none begins there, and why
+pub record Stops (start : Pos) (text : List ℕ) (lex : Lexed) (p : Pos) : Type 0 where
   pub front : List ℕ
   pub rest : List ℕ
   pub whole : text ≡ front ++ rest
-  pub some : 0 < length rest
   pub place : p ≡ position_after start front
+  pub before : IsTokens start front lex.tokens
+  pub some : 0 < length rest
   pub none : (word after : List ℕ) (t : Token) → rest ≡ word ++ after → IsToken p word after t → ⊥
+  pub cause : Causes lex.ending rest
 
 -- the tokens of a text begin a text, and then comes what is no token
 pub record Breaks (lex : Lexed) (ending : Ending) : Type 0 where

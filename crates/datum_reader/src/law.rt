@@ -7,7 +7,7 @@ ghost use Rattle.datum_form.specs.Grammar.{IsSpelled};
 ghost use Rattle.datum_form.specs.Text.{lexed};
 ghost use Rattle.datum_form.specs.Text.Ending.{Clean};
 ghost use Rattle.datum_reader.specs.declared.error.ReadErr.{ReadErr};
-ghost use Rattle.datum_reader.specs.Answer.{Reads, ReadFault, ReadsAgain, NoToken, stop_of};
+ghost use Rattle.datum_reader.specs.Answer.{Reads, ReadFault, ReadsAgain, Stops, stop_of};
 
 /// The law that a list of tokens is a text of one list of trees, or else has one fault at one place,
 /// whatever depth of nesting is allowed.
@@ -38,7 +38,9 @@ pub fn printed_data()
     ensures { (text : List ℕ) (is : Items) → Reads text is → ReadsAgain is }
 {}
 
-/// The law that where the tokens of a text stop before its end, no token of the grammar begins.
+/// The law that where the tokens of a text stop before its end, the text before is these tokens, and no token
+/// of the grammar begins there: a number that is out of range does, or a string that is never closed, or
+/// neither, just as the ending says.
 pub fn no_token()
-    ensures { (text : List ℕ) (p : Pos) → stop_of (lexed text).ending ≡ Some p → NoToken (record { line = 1; col = 1 }) text p }
+    ensures { (text : List ℕ) (p : Pos) → stop_of (lexed text).ending ≡ Some p → Stops (record { line = 1; col = 1 }) text (lexed text) p }
 {}

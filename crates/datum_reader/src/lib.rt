@@ -4,7 +4,8 @@
 //! `specs/Answer` says which data a text reads as, and which fault it has: `read_program` answers these, and
 //! only want of memory is free. `one_answer` is the law that a text has one answer, `one_reading` the same of
 //! tokens, `same_texts` that the tokens which are found from left to right are those of the grammar,
-//! `no_token` that where they stop before the text's end the grammar has none, and `printed_data` that what `write_text` prints of them reads as the same data.
+//! `no_token` that where they stop before the text's end the grammar has none, and why, and `printed_data` that
+//! what `write_text` prints of them reads as the same data.
 //!
 //! The code finds a text's next token (`lexer`, `piece`, `word`, `number`, `string`) and gives it to
 //! what is open (`reading`, `level`), where it becomes nodes (`nodes`). A token is looked at once, and a
