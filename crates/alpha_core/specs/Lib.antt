@@ -1,0 +1,7 @@
+pub mod Answers
+pub mod Depth
+pub mod Levels
+pub mod Names
+pub mod Renaming
+pub mod Seen
+pub mod Steps

@@ -1,0 +1,5 @@
+use Rattle.std.proofs.Common.{ℕ, ◌+◌, ◌*◌, length}
+use Rattle.box_name.proofs.survey.Survey.note_holes.Given as goal
+
+abbrev pub decreases-loop-param : goal.decreases-loop-param
+decreases-loop-param l = length l.params

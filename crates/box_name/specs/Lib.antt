@@ -1,0 +1,4 @@
+pub mod Counts
+pub mod Naming
+pub mod Told
+pub mod Whole

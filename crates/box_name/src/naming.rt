@@ -1,0 +1,37 @@
+use crate::facts::Facts;
+use crate::namer::Namer;
+use alpha_core::copy_lits;
+use core_form::Renamed;
+use named_form::{Named, Procs};
+use std::alloc::{AllocError, Global};
+
+/// The greatest depth of a renamed core.
+const MOST: u32 = 4000;
+
+/// The named form of a renamed core. A core that is deeper than 4,000 is refused as want of memory.
+pub fn name(alloc: Global, core: &Renamed) -> Result<Named, AllocError> {
+    let facts = Facts::new(alloc, core, MOST)?;
+    name_known(alloc, core, &facts)
+}
+
+/// The named form of a core of which this is known.
+fn name_known<'a>(
+    alloc: Global,
+    core: &'a Renamed,
+    facts: &Facts<'a>,
+) -> Result<Named, AllocError> {
+    let tops = facts.tops()?;
+    let procs = name_all(alloc, core, facts)?;
+    let lits = copy_lits(alloc, &core.lits)?;
+    Ok(Named { procs, tops, lits })
+}
+
+/// Its procedures. The program is procedure 0.
+fn name_all<'a>(alloc: Global, core: &'a Renamed, facts: &Facts<'a>) -> Result<Procs, AllocError> {
+    let mut namer = Namer::new(alloc);
+    let program = namer.name_program(core, facts, MOST)?;
+    let mut procs = Procs::new(alloc);
+    procs.push(program)?;
+    namer.name_procedures(core, facts, MOST, &mut procs)?;
+    Ok(procs)
+}

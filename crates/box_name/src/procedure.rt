@@ -1,0 +1,156 @@
+use crate::facts::{Facts, Stand};
+use crate::namer::Namer;
+use crate::survey::Origin;
+use core_form::{Renamed, VarRef, What};
+use named_form::{Block, Proc, Procs, Step};
+use scheme_base::{Ids, List, Pos};
+use sqlite_items::Items;
+use std::alloc::AllocError;
+
+impl Namer {
+    /// Makes procedure 0, whose steps are those of the program's forms.
+    pub(crate) fn name_program<'a, 'f>(
+        &mut self,
+        core: &'a Renamed,
+        facts: &'f Facts<'a>,
+        deep: u32,
+    ) -> Result<Proc, AllocError> {
+        let mut steps = Vec::new(self.alloc);
+        self.name_forms(core, facts, deep, &mut steps)?;
+        Ok(Proc {
+            params: Ids::new(self.alloc),
+            rest: None,
+            body: Block {
+                steps: Items::from_vec(steps),
+                value: None,
+            },
+            pos: Pos { line: 0, col: 0 },
+        })
+    }
+
+    /// Makes the steps of the program's forms.
+    fn name_forms<'a, 'f>(
+        &mut self,
+        core: &'a Renamed,
+        facts: &'f Facts<'a>,
+        deep: u32,
+        steps: &mut Vec<Step>,
+    ) -> Result<(), AllocError> {
+        let mut form: u32 = 0;
+        let mut left = core.forms.as_slice();
+        while let Some((expr, others)) = left.split_first() {
+            self.name_expr(Stand { core, facts, form }, *expr, deep, steps)?;
+            let Some(next) = form.checked_add(1) else {
+                return Err(AllocError);
+            };
+            form = next;
+            left = others;
+        }
+        Ok(())
+    }
+
+    /// Makes the procedures from 1 on, in their order.
+    pub(crate) fn name_procedures<'a, 'f>(
+        &mut self,
+        core: &'a Renamed,
+        facts: &'f Facts<'a>,
+        deep: u32,
+        procs: &mut Procs,
+    ) -> Result<(), AllocError> {
+        let mut after: u32 = 1;
+        let mut left = facts.survey.procs.as_slice();
+        while let Some((origin, others)) = left.split_first() {
+            let Some(next) = after.checked_add(1) else {
+                return Err(AllocError);
+            };
+            after = next;
+            self.next_proc = after;
+            let form = origin.form;
+            procs.push(self.name_procedure(Stand { core, facts, form }, origin.expr, deep)?)?;
+            left = others;
+        }
+        Ok(())
+    }
+
+    fn name_procedure<'a, 'f>(
+        &mut self,
+        stand: Stand<'a, 'f>,
+        lambda: u32,
+        deep: u32,
+    ) -> Result<Proc, AllocError> {
+        let Some(node) = stand.core.exprs.get(lambda as usize) else {
+            return Err(AllocError);
+        };
+        let What::Lambda { params, rest, body } = &node.what else {
+            return Err(AllocError);
+        };
+        let pos = node.pos;
+        let vars = self.param_vars(params)?;
+        let last = self.rest_var(rest)?;
+        let mut steps = Vec::new(self.alloc);
+        self.settle_params(stand, params, vars.as_slice(), pos, &mut steps)?;
+        self.settle_rest(stand, rest, last, pos, &mut steps)?;
+        let value = self.name_expr(stand, *body, deep, &mut steps)?;
+        Ok(Proc {
+            params: vars,
+            rest: last,
+            body: Block {
+                steps: Items::from_vec(steps),
+                value: Some(value),
+            },
+            pos,
+        })
+    }
+
+    fn param_vars(&mut self, params: &List<VarRef>) -> Result<Ids, AllocError> {
+        let mut vars = Ids::new(self.alloc);
+        let mut left = params.as_slice();
+        while let Some((_, others)) = left.split_first() {
+            vars.push(self.fresh()?)?;
+            left = others;
+        }
+        Ok(vars)
+    }
+
+    fn rest_var(&mut self, rest: &Option<VarRef>) -> Result<Option<u32>, AllocError> {
+        match rest {
+            Some(_) => Ok(Some(self.fresh()?)),
+            None => Ok(None),
+        }
+    }
+
+    fn settle_params<'a, 'f>(
+        &mut self,
+        stand: Stand<'a, 'f>,
+        params: &'a List<VarRef>,
+        vars: &[u32],
+        pos: Pos,
+        steps: &mut Vec<Step>,
+    ) -> Result<(), AllocError> {
+        let mut params = params.as_slice();
+        let mut vars = vars;
+        while let Some((param, other_params)) = params.split_first() {
+            let Some((var, other_vars)) = vars.split_first() else {
+                break;
+            };
+            self.settle(stand, param, *var, pos, steps)?;
+            params = other_params;
+            vars = other_vars;
+        }
+        Ok(())
+    }
+
+    fn settle_rest<'a, 'f>(
+        &mut self,
+        stand: Stand<'a, 'f>,
+        rest: &'a Option<VarRef>,
+        var: Option<u32>,
+        pos: Pos,
+        steps: &mut Vec<Step>,
+    ) -> Result<(), AllocError> {
+        match (rest, var) {
+            (Some(param), Some(var)) => self.settle(stand, param, var, pos, steps),
+            _ => Ok(()),
+        }
+    }
+}
