@@ -1,0 +1,3 @@
+pub mod FlatOf
+pub mod Tables
+pub mod Steps
