@@ -1,0 +1,4 @@
+pub mod Linked
+pub mod Named
+pub mod Placed
+pub mod Counted

@@ -1,0 +1,15 @@
+-- What is put, with what is left to put, is all of it.
+use Rattle.std.proofs.Common.{◌≡◌, ◌++◌, length}
+use Rattle.tail_codegen.specs.Items.{Text}
+use Rattle.tail_codegen.specs.Templates.{fill_closures}
+use Rattle.tail_codegen.specs.Written.{unit}
+use Rattle.tail_codegen.proofs.make.fill_closures.Given as goal
+
+abbrev pub invariant-loop-one : goal.invariant-loop-one
+invariant-loop-one l =
+    (rest : Text)
+    → l.asm ++ fill_closures (unit l.unit) l.closures l.places rest
+    ≡ l.initial.asm ++ fill_closures (unit l.unit) l.made l.to rest
+
+abbrev pub decreases-loop-one : goal.decreases-loop-one
+decreases-loop-one l = length l.closures

@@ -1,0 +1,4 @@
+pub mod Items
+pub mod Values
+pub mod Templates
+pub mod Written
