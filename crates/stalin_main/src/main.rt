@@ -8,7 +8,7 @@ mod arguments;
 
 use stalin_outside::{Console, FileShelf, OpenGate, StdConsole};
 use stalin_top::{stalin, status};
-use std::alloc::{AllocError, Global};
+use std::alloc::{AllocError, AllocGlobal, Global};
 use std::env::Env;
 use std::process::ExitCode;
 use std::rt::Files;
@@ -29,7 +29,7 @@ fn main(rt: HostRuntime) -> ExitCode {
 /// Does what the process's words say, and tells the status of the answer.
 fn run<R, C>(rt: &R, alloc: Global, console: &mut C) -> Result<u8, AllocError>
 where
-    R: Env + Files + Threads + Sync + Clone + Drop,
+    R: AllocGlobal + Env + Files + Threads + Sync + Clone + Drop,
     C: Console,
 {
     let words = arguments::words(rt, alloc)?;

@@ -1,4 +1,6 @@
 pub mod Emulations
+pub mod Fitting
+pub mod NoImage
 pub mod Numbers
 pub mod OneWordMore
 pub mod Outcomes

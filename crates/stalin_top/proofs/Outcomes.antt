@@ -1,95 +1,94 @@
--- What an answer to `compile` says of the files, from what reading, building and writing gave.
-use Rattle.std.proofs.Common.{ℕ, ◌<◌, ◌≤◌, ◌^◌, length, arith, ◌≡◌, refl, sym, ap, subst, ◌∙◌, List, Option, Some, None, inl, inr, ⊎_elim}
-use Rattle.scheme_base.specs.declared.pos.Pos.{Pos}
-use Rattle.stalin_outside.specs.Shelf.{Files, WhereTold, SameFiles}
-use Rattle.first_form.specs.Form.{Reads, IsNotYet}
-use Rattle.first_form.proofs.Answer.{apart, one_place}
-use Rattle.first_image.specs.First.{first_file}
-use Rattle.first_image.specs.Agrees.{Agrees}
-use Rattle.stalin_top.specs.declared.answer.Answer.{Answer}
-use Rattle.stalin_top.specs.declared.answer.Answer.TheVariants.{Done, Usage, TooLarge, FileFault, NotYet, BadImage, Spent, Trapped, Image, NoMemory}
-use Rattle.stalin_outside.specs.declared.whole_files.Reading.TheVariants as reads
+-- What an answer to `compile` or `run` says, from what building the image and then writing or emulating it gave.
+use Rattle.std.proofs.Common.{ℕ, ◌<◌, ◌≤◌, ◌^◌, ◌⊎◌, length, arith, ◌≡◌, ◌≢◌, refl, sym, ap, subst, ◌∙◌, List, Option, Some, None, inl, inr, ⊎_elim}
+use Rattle.stalin_outside.specs.Console.{Told}
+use Rattle.stalin_outside.specs.Shelf.{Files, ChangesOnly, WhereTold, SameFiles}
+use Rattle.stalin_outside.specs.WholeFiles.{WritesFile, HoldsFront}
 use Rattle.stalin_outside.specs.declared.whole_files.Writing.TheVariants as writes
-use Rattle.stalin_outside.specs.WholeFiles.{ReadsFile, WritesFile, HoldsFront}
-use Rattle.stalin_top.specs.Compile.{IsCompiled, Outcome, Causes, IsAsked, Compiles, source_limit}
+use Rattle.rv_form.specs.declared.image.Image.{Image as Loaded}
+use Rattle.elf_write.specs.declared.error.ElfErr.{ElfErr}
+use Rattle.elf_write.specs.declared.error.ElfErr.TheVariants as breaks
+use Rattle.elf_write.specs.Reading.{HoldsImage, Breaks}
+use Rattle.elf_write.proofs.Answers.{one_answer}
+use Rattle.elf_write.proofs.Back.{reads_back}
+use Rattle.image_build.specs.Emitted.{Emitted, Refuses}
+use Rattle.image_build.specs.declared.error.BuildErr.{BuildErr}
+use Rattle.image_build.specs.declared.error.BuildErr.TheVariants as build
+use Rattle.stalin_top.specs.declared.answer.Answer.{Answer}
+use Rattle.stalin_top.specs.declared.answer.Answer.TheVariants.{Done, Usage, Refused, TooLarge, FileFault, BadImage, Spent, Trapped, Image, NoMemory}
+use Rattle.stalin_top.specs.declared.answer.Refusal.TheVariants as refusals
+use Rattle.stalin_top.specs.Answer.{Yields}
+use Rattle.stalin_top.specs.Emulate as emulations
 use Rattle.stalin_top.specs.Outside.{Outside, IfTold}
+use Rattle.stalin_top.specs.Source.{IsSource, IsBuilt, StopsAs, source_limit}
+use Rattle.stalin_top.specs.Compile.{Outcome, Causes, IsAsked, Compiles}
+use Rattle.stalin_top.specs.Run as runs
+use Rattle.stalin_top.specs.Run.{Runs}
 
--- the image that is made of what was read is the compiled text
-pub compiled : (text chars bytes one other : List ℕ) → Reads text chars → one ≡ chars → other ≡ chars
-    → bytes ≡ first_file other → Agrees one (first_file one) → IsCompiled text bytes
-compiled text chars bytes one other read one_is other_is made law =
-    let file : bytes ≡ first_file chars = made ∙ ap first_file other_is in
-    record {
-      chars = chars;
-      reads = read;
-      file = file;
-      runs = subst (λ b. Agrees chars b) (sym file) (subst (λ c. Agrees c (first_file c)) one_is law);
-    }
+-- Writing the image
 
-pub too_large : (before now : Option Files) (input output : List ℕ) → ReadsFile (2 ^ 20) before input reads.TooLong
-    → SameFiles before now → WhereTold (Outcome input output (TooLarge source_limit)) before now
-too_large None now input output read same = tt
-too_large (Some before) None input output read same = absurd same
-too_large (Some before) (Some now) input output read same = (read.0, read.1, read.2, refl, same)
+told_then : (name : List ℕ) (content : Option (List ℕ)) (before middle now : Option Files) → SameFiles before middle
+    → WhereTold (ChangesOnly name content) middle now → WhereTold (ChangesOnly name content) before now
+told_then name content None middle now same changed = tt
+told_then name content (Some before) None now same changed = absurd same
+told_then name content (Some before) (Some middle) None same changed = absurd changed
+told_then name content (Some before) (Some middle) (Some now) same changed =
+    record { changed = changed.changed; others = λ other differs. changed.others other differs ∙ same other }
 
-pub not_yet : (before now : Option Files) (input output source text : List ℕ) (pos : Pos)
-    → ReadsFile (2 ^ 20) before input (reads.Whole source) → SameFiles before now → text ≡ source → IsNotYet text pos
-    → WhereTold (Outcome input output (NotYet pos)) before now
-not_yet None now input output source text pos read same text_is fault = tt
-not_yet (Some before) None input output source text pos read same text_is fault = absurd same
-not_yet (Some before) (Some now) input output source text pos read same text_is fault = (
-  source,
-  record { held = read.0; short = read.1 },
-  subst (λ t. IsNotYet t pos) text_is fault,
-  same,
+front_then : (name bytes : List ℕ) (before middle now : Option Files) → SameFiles before middle
+    → WhereTold (HoldsFront name bytes) middle now → WhereTold (HoldsFront name bytes) before now
+front_then name bytes None middle now same front = tt
+front_then name bytes (Some before) None now same front = absurd same
+front_then name bytes (Some before) (Some middle) None same front = absurd front
+front_then name bytes (Some before) (Some middle) (Some now) same front = (
+  front.0,
+  front.1,
+  record { changed = front.2.changed; others = λ other differs. front.2.others other differs ∙ same other },
 )
 
--- what was written to OUTPUT is the image of what INPUT held
-pub done : (before middle now : Option Files) (input output source text image bytes : List ℕ)
-    → ReadsFile (2 ^ 20) before input (reads.Whole source) → SameFiles before middle → text ≡ source
-    → IsCompiled text image → bytes ≡ image → WritesFile output bytes writes.Done middle now
-    → WhereTold (Outcome input output Done) before now
-done None middle now input output source text image bytes read same text_is made bytes_are written = tt
-done (Some before) None now input output source text image bytes read same text_is made bytes_are written =
-    absurd same
-done (Some before) (Some middle) None input output source text image bytes read same text_is made bytes_are written =
-    absurd written
-done (Some before) (Some middle) (Some now) input output source text image bytes read same text_is made bytes_are written = (
-  source,
+same_then : (before middle now : Option Files) → SameFiles before middle → SameFiles middle now → SameFiles before now
+same_then None middle now one two = tt
+same_then (Some before) None now one two = absurd one
+same_then (Some before) (Some middle) None one two = absurd two
+same_then (Some before) (Some middle) (Some now) one two = λ name. two name ∙ one name
+
+pub done : (source image : List ℕ) (heap : ℕ) (bytes slice : List ℕ) (before middle now : Option Files)
+    → IsBuilt before source heap bytes → SameFiles before middle → slice ≡ bytes
+    → WritesFile image slice writes.Done middle now → Outcome source image heap Done before now
+done source image heap bytes slice before middle now built same is written = (
   bytes,
-  record { held = read.0; short = read.1 },
-  subst (λ t. IsCompiled t bytes) text_is (subst (λ b. IsCompiled text b) (sym bytes_are) made),
-  record { changed = written.changed; others = λ other differs. written.others other differs ∙ same other },
+  built,
+  told_then image (Some bytes) before middle now same
+      (subst (λ b. WritesFile image b writes.Done middle now) is written),
 )
 
-pub faulted : (before middle now : Option Files) (input output source text image bytes : List ℕ)
-    → ReadsFile (2 ^ 20) before input (reads.Whole source) → SameFiles before middle → text ≡ source
-    → IsCompiled text image → bytes ≡ image → WritesFile output bytes writes.Fault middle now
-    → WhereTold (Outcome input output FileFault) before now
-faulted None middle now input output source text image bytes read same text_is made bytes_are written = tt
-faulted (Some before) None now input output source text image bytes read same text_is made bytes_are written =
-    absurd same
-faulted (Some before) (Some middle) None input output source text image bytes read same text_is made bytes_are written =
-    ⊎_elim (λ (h : ⊥). absurd h) (λ (h : ⊥). absurd h) written
-faulted (Some before) (Some middle) (Some now) input output source text image bytes read same text_is made bytes_are written =
+pub faulted : (source image : List ℕ) (heap : ℕ) (bytes slice : List ℕ) (before middle now : Option Files)
+    → IsBuilt before source heap bytes → SameFiles before middle → slice ≡ bytes
+    → WritesFile image slice writes.Fault middle now → Outcome source image heap FileFault before now
+faulted source image heap bytes slice before middle now built same is written =
     ⊎_elim
-    (λ (h : (name : List ℕ) → now name ≡ middle name).
-    let outcome : Outcome input output FileFault before now = inl (λ name. h name ∙ same name) in outcome)
-    (λ (h : HoldsFront output bytes middle now).
-    let outcome : Outcome input output FileFault before now =
-    inr (
-      source,
-      bytes,
-      record { held = read.0; short = read.1 },
-      subst (λ t. IsCompiled t bytes) text_is (subst (λ b. IsCompiled text b) (sym bytes_are) made),
-      (
-        h.0,
-        h.1,
-        record { changed = h.2.changed; others = λ other differs. h.2.others other differs ∙ same other },
-      ),
-    )
+    (λ (kept : SameFiles middle now).
+    let outcome : Outcome source image heap FileFault before now = inl (same_then before middle now same kept) in outcome)
+    (λ (front : WhereTold (HoldsFront image bytes) middle now).
+    let outcome : Outcome source image heap FileFault before now =
+    inr (bytes, built, front_then image bytes before middle now same front)
     in outcome)
-    written
+    (subst (λ b. WritesFile image b writes.Fault middle now) is written)
+
+-- what is answered before there is an image
+pub stopped : (source image : List ℕ) (heap : ℕ) (answer : Answer) (before now : Option Files)
+    → StopsAs before source heap answer → SameFiles before now → Outcome source image heap answer before now
+stopped source image heap Done before now stops same = absurd stops
+stopped source image heap (Usage word) before now stops same = absurd stops
+stopped source image heap (Refused refusal) before now stops same = (stops, same)
+stopped source image heap (TooLarge limit) before now stops same = (stops, same)
+stopped source image heap FileFault before now stops same = inl same
+stopped source image heap (BadImage err) before now stops same = absurd stops
+stopped source image heap (Spent steps) before now stops same = absurd stops
+stopped source image heap (Trapped kind pc) before now stops same = absurd stops
+stopped source image heap (Image status) before now stops same = absurd stops
+stopped source image heap NoMemory before now stops same = (stops, same)
+
+-- Which answer comes to which text
 
 same_text : (file : Option (List ℕ)) (a b : List ℕ) → file ≡ Some a → file ≡ Some b → b ≡ a
 same_text file a b one two = cc
@@ -100,72 +99,164 @@ not_long : (file : Option (List ℕ)) (text long : List ℕ) → file ≡ Some t
 not_long file text long one short two more =
     let e : length long ≡ length text = ap length (same_text file text long one two) in omega arith
 
-causes_of : (before now : Files) (input output : List ℕ) (answer : Answer) → Outcome input output answer before now
-    → Causes input answer before
-causes_of before now input output Done outcome =
+-- a text without a reason to refuse it is not refused
+no_reason : (files : Files) (source text other : List ℕ) (heap : ℕ) (error : BuildErr) → error ≢ build.NoMemory
+    → IsSource (Some files) source text → IsSource (Some files) source other → Refuses other heap error
+    → ((error : BuildErr) → error ≢ build.NoMemory → ¬ Refuses text heap error) → ⊥
+no_reason files source text other heap error some one two refuses none =
+    none error some (subst (λ t. Refuses t heap error) (same_text (files source) text other one.0 two.0) refuses)
+
+stop_complete : (files : Files) (source text : List ℕ) (heap : ℕ) (answer : Answer) → StopsAs (Some files) source heap answer
+    → IsSource (Some files) source text → ((error : BuildErr) → error ≢ build.NoMemory → ¬ Refuses text heap error)
+    → (answer ≡ FileFault) ⊎ (answer ≡ NoMemory)
+stop_complete files source text heap (Refused (refusals.Read e)) stops there none =
+    absurd (no_reason files source text stops.text heap (build.Read e) (λ is. cc) there stops.held stops.refuses none)
+stop_complete files source text heap (Refused (refusals.Form e)) stops there none =
+    absurd (no_reason files source text stops.text heap (build.Form e) (λ is. cc) there stops.held stops.refuses none)
+stop_complete files source text heap (TooLarge limit) (inl long) there none =
+    absurd (not_long (files source) text long.0.0 there.0 there.1 long.0.1 long.0.2)
+stop_complete files source text heap (TooLarge limit) (inr stops) there none =
+    absurd (no_reason files source text stops.text heap (build.Limit limit) (λ is. cc) there stops.held stops.refuses none)
+stop_complete files source text heap FileFault stops there none = inl refl
+stop_complete files source text heap NoMemory stops there none = inr refl
+stop_complete files source text heap Done stops there none = absurd stops
+stop_complete files source text heap (Usage word) stops there none = absurd stops
+stop_complete files source text heap (BadImage err) stops there none = absurd stops
+stop_complete files source text heap (Spent steps) stops there none = absurd stops
+stop_complete files source text heap (Trapped kind pc) stops there none = absurd stops
+stop_complete files source text heap (Image status) stops there none = absurd stops
+
+no_long : (files : Files) (source text long : List ℕ) → IsSource (Some files) source text → files source ≡ Some long
+    → 2 ^ 20 < length long → ⊥
+no_long files source text long there held more = not_long (files source) text long there.0 there.1 held more
+
+stop_limited : (files : Files) (source long : List ℕ) (heap : ℕ) (answer : Answer) → StopsAs (Some files) source heap answer
+    → files source ≡ Some long → 2 ^ 20 < length long → Yields (TooLarge source_limit) answer
+stop_limited files source long heap (Refused (refusals.Read e)) stops held more =
+    absurd (no_long files source stops.text long stops.held held more)
+stop_limited files source long heap (Refused (refusals.Form e)) stops held more =
+    absurd (no_long files source stops.text long stops.held held more)
+stop_limited files source long heap (TooLarge limit) (inl is) held more = inl (ap TooLarge is.1)
+stop_limited files source long heap (TooLarge limit) (inr stops) held more =
+    absurd (no_long files source stops.text long stops.held held more)
+stop_limited files source long heap FileFault stops held more = inr (inl refl)
+stop_limited files source long heap NoMemory stops held more = inr (inr refl)
+stop_limited files source long heap Done stops held more = absurd stops
+stop_limited files source long heap (Usage word) stops held more = absurd stops
+stop_limited files source long heap (BadImage err) stops held more = absurd stops
+stop_limited files source long heap (Spent steps) stops held more = absurd stops
+stop_limited files source long heap (Trapped kind pc) stops held more = absurd stops
+stop_limited files source long heap (Image status) stops held more = absurd stops
+
+causes_of : (files : Files) (now : Option Files) (source image : List ℕ) (heap : ℕ) (answer : Answer)
+    → Outcome source image heap answer (Some files) now → Causes source heap answer files
+causes_of files now source image heap Done outcome =
     record {
-      complete = λ text chars source reads. inl refl;
-      refused =
-          λ text pos source fault.
-          absurd
-          (apart outcome.0 outcome.3.chars pos outcome.3.reads
-          (subst (λ t. IsNotYet t pos) (same_text _ outcome.0 text outcome.2.held source.held) fault));
-      limited = λ text held long. absurd (not_long _ outcome.0 text outcome.2.held outcome.2.short held long);
+      complete = λ text there none. inl refl;
+      limited = λ long held more. absurd (no_long files source outcome.1.text long outcome.1.held held more);
     }
-causes_of before now input output (Usage word) outcome = absurd outcome
-causes_of before now input output (TooLarge limit) outcome =
+causes_of files now source image heap FileFault outcome =
+    record { complete = λ text there none. inr (inl refl); limited = λ long held more. inr (inl refl) }
+causes_of files now source image heap answer outcome =
     record {
-      complete = λ text chars source reads. absurd (not_long _ text outcome.0 source.held source.short outcome.1 outcome.2);
-      refused = λ text pos source fault. absurd (not_long _ text outcome.0 source.held source.short outcome.1 outcome.2);
-      limited = λ text held long. inl (ap TooLarge outcome.3);
-    }
-causes_of before now input output (BadImage err) outcome = absurd outcome
-causes_of before now input output (Spent steps) outcome = absurd outcome
-causes_of before now input output (Trapped kind pc) outcome = absurd outcome
-causes_of before now input output (Image status) outcome = absurd outcome
-causes_of before now input output (NotYet pos) outcome =
-    record {
-      complete =
-          λ text chars source reads.
-          absurd
-          (apart text chars pos reads
-          (subst (λ t. IsNotYet t pos) (same_text _ text outcome.0 source.held outcome.1.held) outcome.2));
-      refused =
-          λ text pos' source fault.
-          inl
-          (ap NotYet
-          (one_place text pos pos'
-          (subst (λ t. IsNotYet t pos) (same_text _ text outcome.0 source.held outcome.1.held) outcome.2)
-          fault));
-      limited = λ text held long. absurd (not_long _ outcome.0 text outcome.1.held outcome.1.short held long);
-    }
-causes_of before now input output FileFault outcome =
-    record {
-      complete = λ text chars source reads. inr (inl refl);
-      refused = λ text pos source fault. inr (inl refl);
-      limited = λ text held long. inr (inl refl);
-    }
-causes_of before now input output NoMemory outcome =
-    record {
-      complete = λ text chars source reads. inr (inr refl);
-      refused = λ text pos source fault. inr (inr refl);
-      limited = λ text held long. inr (inr refl);
+      complete = λ text there none. inr (stop_complete files source text heap answer outcome.0 there none);
+      limited = λ long held more. stop_limited files source long heap answer outcome.0 held more;
     }
 
--- so what each answer says of the files tells which answer comes to which text
-pub causes : (before now : Option Files) (input output : List ℕ) (answer : Answer)
-    → WhereTold (Outcome input output answer) before now → IfTold before (Causes input answer)
-causes None now input output answer outcome = tt
-causes (Some before) None input output answer outcome = absurd outcome
-causes (Some before) (Some now) input output answer outcome = causes_of before now input output answer outcome
+causes : (files now : Option Files) (source image : List ℕ) (heap : ℕ) (answer : Answer)
+    → Outcome source image heap answer files now → IfTold files (Causes source heap answer)
+causes None now source image heap answer outcome = tt
+causes (Some files) now source image heap answer outcome = causes_of files now source image heap answer outcome
 
-pub compiles : (source image : List ℕ) (answer : Answer) (before after : Outside)
-    → WhereTold (Outcome source image answer) before.files after.files → IsAsked source image answer before.asks after.asks
-    → after.console ≡ before.console → Compiles source image answer before after
-compiles source image answer before after outcome asks console =
+pub compiles : (source image : List ℕ) (heap : ℕ) (answer : Answer) (before after : Outside)
+    → Outcome source image heap answer before.files after.files → IsAsked source image answer before.asks after.asks
+    → after.console ≡ before.console → Compiles source image heap answer before after
+compiles source image heap answer before after outcome asks console =
     record {
       outcome = outcome;
-      causes = causes before.files after.files source image answer outcome;
+      causes = causes before.files after.files source image heap answer outcome;
       asks = asks;
       console = console;
+    }
+
+-- Emulating the image
+
+emitted_image : (text bytes : List ℕ) (heap : ℕ) → Emitted text heap bytes → (image : Loaded) × HoldsImage bytes image
+emitted_image text bytes heap emitted =
+    (emitted.image, subst (λ b. HoldsImage b emitted.image) (sym emitted.written) (reads_back emitted.image emitted.is_image.valid))
+
+no_break : (files : Option Files) (source bytes : List ℕ) (heap : ℕ) (err : ElfErr) → IsBuilt files source heap bytes
+    → Breaks bytes err → err ≢ breaks.NoMemory → ⊥
+no_break files source bytes heap err built broken some =
+    let image = emitted_image built.text bytes heap built.emitted in
+    some ((one_answer bytes).whole image.0 err image.1 broken)
+
+ran_bytes : (files : Option Files) (source bytes : List ℕ) (heap steps : ℕ) (answer : Answer) (before now : Told)
+    → IsBuilt files source heap bytes → emulations.IsRun bytes steps answer before now
+    → runs.Outcome files source heap steps answer before now
+ran_bytes files source bytes heap steps (Image status) before now built run =
+    record { bytes = bytes; built = built; emulated = run }
+ran_bytes files source bytes heap steps (Spent n) before now built run = record { bytes = bytes; built = built; emulated = run }
+ran_bytes files source bytes heap steps (Trapped kind pc) before now built run =
+    record { bytes = bytes; built = built; emulated = run }
+ran_bytes files source bytes heap steps NoMemory before now built run = (tt, run)
+ran_bytes files source bytes heap steps (BadImage err) before now built run =
+    absurd (no_break files source bytes heap err built run.0 run.1)
+ran_bytes files source bytes heap steps Done before now built run = absurd run
+ran_bytes files source bytes heap steps (Usage word) before now built run = absurd run
+ran_bytes files source bytes heap steps (Refused refusal) before now built run = absurd run
+ran_bytes files source bytes heap steps (TooLarge limit) before now built run = absurd run
+ran_bytes files source bytes heap steps FileFault before now built run = absurd run
+
+pub ran : (files : Option Files) (source bytes slice : List ℕ) (heap steps : ℕ) (answer : Answer) (before now : Told)
+    → IsBuilt files source heap bytes → slice ≡ bytes → emulations.IsRun slice steps answer before now
+    → runs.Outcome files source heap steps answer before now
+ran files source bytes slice heap steps answer before now built is run =
+    ran_bytes files source bytes heap steps answer before now built (subst (λ b. emulations.IsRun b steps answer before now) is run)
+
+pub run_stopped : (files : Option Files) (source : List ℕ) (heap steps : ℕ) (answer : Answer) (told : Told)
+    → StopsAs files source heap answer → runs.Outcome files source heap steps answer told told
+run_stopped files source heap steps (Image status) told stops = absurd stops
+run_stopped files source heap steps (Spent n) told stops = absurd stops
+run_stopped files source heap steps (Trapped kind pc) told stops = absurd stops
+run_stopped files source heap steps answer told stops = (stops, refl)
+
+run_causes_of : (files : Files) (source : List ℕ) (heap steps : ℕ) (answer : Answer) (before now : Told)
+    → runs.Outcome (Some files) source heap steps answer before now → runs.Causes source heap answer files
+run_causes_of files source heap steps (Image status) before now outcome =
+    record {
+      complete = λ text there none. inl tt;
+      limited = λ long held more. absurd (no_long files source outcome.built.text long outcome.built.held held more);
+    }
+run_causes_of files source heap steps (Spent n) before now outcome =
+    record {
+      complete = λ text there none. inl tt;
+      limited = λ long held more. absurd (no_long files source outcome.built.text long outcome.built.held held more);
+    }
+run_causes_of files source heap steps (Trapped kind pc) before now outcome =
+    record {
+      complete = λ text there none. inl tt;
+      limited = λ long held more. absurd (no_long files source outcome.built.text long outcome.built.held held more);
+    }
+run_causes_of files source heap steps answer before now outcome =
+    record {
+      complete = λ text there none. inr (stop_complete files source text heap answer outcome.0 there none);
+      limited = λ long held more. stop_limited files source long heap answer outcome.0 held more;
+    }
+
+run_causes : (files : Option Files) (source : List ℕ) (heap steps : ℕ) (answer : Answer) (before now : Told)
+    → runs.Outcome files source heap steps answer before now → IfTold files (runs.Causes source heap answer)
+run_causes None source heap steps answer before now outcome = tt
+run_causes (Some files) source heap steps answer before now outcome =
+    run_causes_of files source heap steps answer before now outcome
+
+pub runs_so : (source : List ℕ) (heap steps : ℕ) (answer : Answer) (before after : Outside) → SameFiles before.files after.files
+    → runs.Outcome before.files source heap steps answer before.console after.console
+    → runs.IsAsked source answer before.asks after.asks → Runs source heap steps answer before after
+runs_so source heap steps answer before after files outcome asks =
+    record {
+      files = files;
+      outcome = outcome;
+      causes = run_causes before.files source heap steps answer before.console after.console outcome;
+      asks = asks;
     }

@@ -14,7 +14,7 @@ use Rattle.stalin_top.specs.declared.shape.Operand.TheVariants.{File}
 use Rattle.stalin_top.specs.declared.shape.Options.{Options}
 use Rattle.stalin_top.specs.declared.shape.Range.{Range}
 use Rattle.stalin_top.specs.declared.shape.Setting.{Setting}
-use Rattle.stalin_top.specs.declared.shape.Setting.TheVariants.{Steps}
+use Rattle.stalin_top.specs.declared.shape.Setting.TheVariants.{Workers, Heap, Steps}
 use Rattle.stalin_top.specs.declared.shape.Settings.{Settings}
 use Rattle.stalin_top.specs.declared.shape.Verb.{Verb}
 use Rattle.stalin_top.specs.declared.shape.Verb.TheVariants as verbs
@@ -24,6 +24,7 @@ use Rattle.stalin_top.specs.declared.shape.Verb.TheVariants as verbs
 abbrev pub verb_of : List ℕ → Option Verb
 verb_of name =
     if bytes_eq name (codes "compile") then Some verbs.Compile
+    else if bytes_eq name (codes "run") then Some verbs.Run
     else if bytes_eq name (codes "emulate") then Some verbs.Emulate
     else None
 
@@ -33,26 +34,44 @@ pub record Shape : Type 0 where
   pub options : Options
 
 abbrev pub shape_of : Verb → Shape
-shape_of verbs.Compile = record { operands = File ∷ File ∷ []; options = record { steps = false } }
-shape_of verbs.Emulate = record { operands = File ∷ []; options = record { steps = true } }
+shape_of verbs.Compile =
+    record { operands = File ∷ File ∷ []; options = record { workers = true; heap = true; steps = false } }
+shape_of verbs.Run = record { operands = File ∷ []; options = record { workers = true; heap = true; steps = true } }
+shape_of verbs.Emulate =
+    record { operands = File ∷ []; options = record { workers = false; heap = false; steps = true } }
 
 abbrev pub setting_of : List ℕ → Option Setting
-setting_of word = if bytes_eq word (codes "--steps") then Some Steps else None
+setting_of word =
+    if bytes_eq word (codes "--workers") then Some Workers
+    else if bytes_eq word (codes "--heap") then Some Heap
+    else if bytes_eq word (codes "--steps") then Some Steps
+    else None
 
 -- which numbers may follow an option, and which one it is where the option is not given
+
 abbrev pub range_of : Setting → Range
+range_of Workers = record { least = 1; most = 32; multiple = 1 }
+range_of Heap = record { least = 4096; most = 2 ^ 30; multiple = 16 }
 range_of Steps = record { least = 1; most = 10 ^ 18; multiple = 1 }
 
 abbrev pub default_of : Setting → ℕ
+default_of Workers = 1
+default_of Heap = 67108864
 default_of Steps = 10 ^ 9
 
 abbrev pub takes : Options → Setting → Bool
+takes options Workers = options.workers
+takes options Heap = options.heap
 takes options Steps = options.steps
 
 abbrev pub given : Settings → Setting → Option ℕ
+given settings Workers = settings.workers
+given settings Heap = settings.heap
 given settings Steps = settings.steps
 
 abbrev pub with_setting : Setting → ℕ → Settings → Settings
+with_setting Workers n settings = record settings { workers = Some n }
+with_setting Heap n settings = record settings { heap = Some n }
 with_setting Steps n settings = record settings { steps = Some n }
 
 abbrev pub value_of : Settings → Setting → ℕ
@@ -75,7 +94,7 @@ pub record Said : Type 0 where
   pub pending : Option Setting
 
 abbrev pub nothing_said : Said
-nothing_said = record { operands = []; settings = record { steps = None }; pending = None }
+nothing_said = record { operands = []; settings = record { workers = None; heap = None; steps = None }; pending = None }
 
 -- what is said after one word more; None where it is broken
 
@@ -111,12 +130,16 @@ with_word shape None word said =
 
 -- a command, as its words say it
 pub data Task : Type 0 where
-  Compile : (source image : List ℕ) → Task
+  Compile : (source image : List ℕ) (workers heap : ℕ) → Task
+  Run : (source : List ℕ) (workers heap steps : ℕ) → Task
   Emulate : (image : List ℕ) (steps : ℕ) → Task
 
 -- what is to be done where no word is missing
 abbrev pub task_of : Verb → List (List ℕ) → Settings → Option Task
-task_of verbs.Compile (source ∷ image ∷ []) settings = Some (Compile source image)
+task_of verbs.Compile (source ∷ image ∷ []) settings =
+    Some (Compile source image (value_of settings Workers) (value_of settings Heap))
+task_of verbs.Run (source ∷ []) settings =
+    Some (Run source (value_of settings Workers) (value_of settings Heap) (value_of settings Steps))
 task_of verbs.Emulate (image ∷ []) settings = Some (Emulate image (value_of settings Steps))
 task_of verb operands settings = None
 

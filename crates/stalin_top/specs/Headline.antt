@@ -15,17 +15,19 @@ use Rattle.stalin_outside.specs.Environment.{IsOf}
 use Rattle.stalin_outside.specs.Sending.{Sends}
 use Rattle.stalin_outside.specs.Transcript.{Call, Passes, Shows}
 use Rattle.stalin_top.specs.Answer.{text_of}
-use Rattle.stalin_top.specs.Command.{Task, Compile, Emulate, task_in}
+use Rattle.stalin_top.specs.Command.{Task, Compile, Run, Emulate, task_in}
 use Rattle.stalin_top.specs.Compile.{Compiles}
 use Rattle.stalin_top.specs.Emulate.{Emulates}
 use Rattle.stalin_top.specs.Outside.{Outside}
+use Rattle.stalin_top.specs.Run.{Runs}
 use Rattle.stalin_top.specs.declared.answer.Answer.{Answer}
 use Rattle.stalin_top.specs.declared.answer.Answer.TheVariants.{Usage, FileFault}
 
 -- what a command does before the text of its answer is sent
 abbrev pub Does : Result Task ℕ → Answer → (before after : Outside) → Type 0
 Does (Err word) answer before after = (answer ≡ Usage word) × (after ≡ before)
-Does (Ok (Compile source image)) answer before after = Compiles source image answer before after
+Does (Ok (Compile source image workers heap)) answer before after = Compiles source image heap answer before after
+Does (Ok (Run source workers heap steps)) answer before after = Runs source heap steps answer before after
 Does (Ok (Emulate image steps)) answer before after = Emulates image steps answer before after
 
 -- What the words say is done, and a file fault is answered only where a call of the shelf failed. Then the

@@ -5,3 +5,5 @@ pub mod Emulate
 pub mod Given
 pub mod Headline
 pub mod Outside
+pub mod Run
+pub mod Source

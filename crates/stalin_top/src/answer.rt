@@ -1,22 +1,33 @@
 ghost use Rattle.std.specs.Prelude.{◌≡◌};
 ghost use Rattle.stalin_top.specs.Answer.{status_of};
 
+use datum_form::FormErr;
+use datum_reader::ReadErr;
 use elf_write::ElfErr;
-use scheme_base::{Limit, Pos};
+use scheme_base::Limit;
+
+/// Why a source is refused; it is never want of memory, nor a limit.
+#[derive(Debug, Drop)]
+pub enum Refusal {
+    /// The text does not read as data.
+    Read(ReadErr),
+    /// A form is broken.
+    Form(FormErr),
+}
 
 /// What a command answers.
-#[derive(Clone, Copy, Debug, PartialEq, Eq)]
+#[derive(Debug, Drop)]
 pub enum Answer {
     /// The command did what it is to do.
     Done,
     /// The words break the command's grammar first at this word, counted from 1.
     Usage { word: u32 },
-    /// The source passes a limit.
+    /// The source is no program.
+    Refused(Refusal),
+    /// The source or an image file passes a limit.
     TooLarge(Limit),
     /// A file could not be read or written.
     FileFault,
-    /// The source is no program that the compiler takes yet, from this place on.
-    NotYet { pos: Pos },
     /// The bytes of an image file break a check; it is never want of memory.
     BadImage(ElfErr),
     /// The image was emulated for so many steps, and has not ended.
@@ -36,9 +47,9 @@ pub fn status(answer: &Answer) -> u8
     match answer {
         Answer::Done => 0,
         Answer::Usage { .. } => 64,
+        Answer::Refused(_) => 65,
         Answer::TooLarge(_) => 66,
         Answer::FileFault => 74,
-        Answer::NotYet { .. } => 69,
         Answer::BadImage(_) => 76,
         Answer::Spent { .. } => 75,
         Answer::Trapped { .. } => 77,

@@ -15,11 +15,11 @@ use std::alloc::Global;
 /// The most bytes that an image file may have.
 const MOST: usize = 0x8000_0000;
 
-/// The answer to an image file of more bytes than there may be.
-const TOO_LARGE: Answer = Answer::TooLarge(Limit {
+/// What an image file of more bytes than there may be passes.
+const LIMIT: Limit = Limit {
     which: LimitKind::File,
     count: MOST as u64 + 1,
-});
+};
 
 /// Emulates the image in the file `image` on the console, for so many steps at most.
 pub(crate) fn emulate<H: Shelf, C: Console>(
@@ -36,15 +36,20 @@ pub(crate) fn emulate<H: Shelf, C: Console>(
         (C.told console.old) (C.told console.new) }
 {
     match read_file(alloc, shelf, image, MOST) {
-        Reading::Whole(file) => run(alloc, console, file.as_slice(), steps),
-        Reading::TooLong => TOO_LARGE,
+        Reading::Whole(file) => emulate_file(alloc, console, file.as_slice(), steps),
+        Reading::TooLong => Answer::TooLarge(LIMIT),
         Reading::Fault => Answer::FileFault,
         Reading::NoMemory => Answer::NoMemory,
     }
 }
 
-/// Runs the image that the bytes of a file are.
-fn run<C: Console>(alloc: Global, console: &mut C, bytes: &[u8], steps: u64) -> Answer
+/// Emulates the image that the bytes of a file are.
+pub(crate) fn emulate_file<C: Console>(
+    alloc: Global,
+    console: &mut C,
+    bytes: &[u8],
+    steps: u64,
+) -> Answer
     ensures { IsRun bytes.now steps result
         (C.told console.old) (C.told console.new) }
 {

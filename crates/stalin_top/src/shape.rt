@@ -1,7 +1,8 @@
 //! The table of commands: what each one takes.
-ghost use Rattle.std.specs.Prelude.{◌≡◌, ◌<◌};
+ghost use Rattle.std.specs.Prelude.{◌≡◌, ◌≤◌, ◌<◌, ◌%◌, ◌^◌};
 ghost use Rattle.std.specs.Option.{option_copied};
 ghost use Rattle.stalin_top.specs.Command.{default_of, given, is_in, is_operand, number_in, range_of, setting_of, shape_of, takes, value_of, verb_of, with_setting};
+ghost use Rattle.stalin_top.specs.Given.{AreFit};
 
 use itoa::Buffer;
 
@@ -9,6 +10,7 @@ use itoa::Buffer;
 #[derive(Clone, Copy, Debug, PartialEq, Eq)]
 pub(crate) enum Verb {
     Compile,
+    Run,
     Emulate,
 }
 
@@ -22,12 +24,18 @@ pub(crate) enum Operand {
 /// Which options a command takes.
 #[derive(Clone, Copy, Debug, PartialEq, Eq)]
 pub(crate) struct Options {
+    pub workers: bool,
+    pub heap: bool,
     pub steps: bool,
 }
 
 /// An option, whose value is a number.
 #[derive(Clone, Copy, Debug, PartialEq, Eq)]
 pub(crate) enum Setting {
+    /// How many threads may work on a program.
+    Workers,
+    /// The bytes of an image's heap.
+    Heap,
     /// How many instructions an emulated image may do.
     Steps,
 }
@@ -35,6 +43,8 @@ pub(crate) enum Setting {
 /// The values of the options that are given.
 #[derive(Clone, Copy, Debug, PartialEq, Eq)]
 pub(crate) struct Settings {
+    pub workers: Option<u64>,
+    pub heap: Option<u64>,
     pub steps: Option<u64>,
 }
 
@@ -53,6 +63,7 @@ impl Verb {
     {
         match word {
             "compile" => Some(Verb::Compile),
+            "run" => Some(Verb::Run),
             "emulate" => Some(Verb::Emulate),
             _ => None,
         }
@@ -64,6 +75,7 @@ impl Verb {
     {
         match self {
             Verb::Compile => &[Operand::File, Operand::File],
+            Verb::Run => &[Operand::File],
             Verb::Emulate => &[Operand::File],
         }
     }
@@ -72,8 +84,21 @@ impl Verb {
         ensures { result ≡ (shape_of self).options }
     {
         match self {
-            Verb::Compile => Options { steps: false },
-            Verb::Emulate => Options { steps: true },
+            Verb::Compile => Options {
+                workers: true,
+                heap: true,
+                steps: false,
+            },
+            Verb::Run => Options {
+                workers: true,
+                heap: true,
+                steps: true,
+            },
+            Verb::Emulate => Options {
+                workers: false,
+                heap: false,
+                steps: true,
+            },
         }
     }
 }
@@ -83,6 +108,8 @@ impl Options {
         ensures { result ≡ takes self setting }
     {
         match setting {
+            Setting::Workers => self.workers,
+            Setting::Heap => self.heap,
             Setting::Steps => self.steps,
         }
     }
@@ -94,6 +121,8 @@ impl Setting {
         ensures { result ≡ setting_of word.now }
     {
         match word {
+            "--workers" => Some(Setting::Workers),
+            "--heap" => Some(Setting::Heap),
             "--steps" => Some(Setting::Steps),
             _ => None,
         }
@@ -105,6 +134,16 @@ impl Setting {
         ensures some { 0 < result.multiple }
     {
         match self {
+            Setting::Workers => Range {
+                least: 1,
+                most: 32,
+                multiple: 1,
+            },
+            Setting::Heap => Range {
+                least: 4096,
+                most: 0x4000_0000,
+                multiple: 16,
+            },
             Setting::Steps => Range {
                 least: 1,
                 most: 1_000_000_000_000_000_000,
@@ -120,6 +159,8 @@ impl Settings {
         ensures { result ≡ given self setting }
     {
         match setting {
+            Setting::Workers => self.workers,
+            Setting::Heap => self.heap,
             Setting::Steps => self.steps,
         }
     }
@@ -128,8 +169,40 @@ impl Settings {
         ensures { result ≡ with_setting setting value self }
     {
         match setting {
-            Setting::Steps => Settings { steps: Some(value) },
+            Setting::Workers => Settings {
+                workers: Some(value),
+                ..self
+            },
+            Setting::Heap => Settings {
+                heap: Some(value),
+                ..self
+            },
+            Setting::Steps => Settings {
+                steps: Some(value),
+                ..self
+            },
         }
+    }
+
+    /// How many threads may work on a program.
+    pub fn workers(self) -> u32
+        requires { AreFit self }
+        ensures value { result ≡ value_of self Setting.Workers }
+        ensures some { 1 ≤ result }
+        ensures few { result ≤ 32 }
+    {
+        self.workers.unwrap_or(1) as u32
+    }
+
+    /// The bytes of an image's heap.
+    pub fn heap(self) -> u64
+        requires { AreFit self }
+        ensures value { result ≡ value_of self Setting.Heap }
+        ensures least { 4096 ≤ result }
+        ensures most { result ≤ 2 ^ 30 }
+        ensures aligned { result % 16 ≡ 0 }
+    {
+        self.heap.unwrap_or(0x400_0000)
     }
 
     /// How many instructions an emulated image may do.

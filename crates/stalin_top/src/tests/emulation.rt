@@ -53,7 +53,7 @@ fn file_of(alloc: Global, headers: &[u8], code: &[u8]) -> Result<Bytes, AllocErr
 }
 
 /// Emulates the file for so many steps as the word says.
-fn emulated<R: Threads + Sync>(
+fn emulated<R: AllocGlobal + Threads + Sync>(
     rt: &R,
     alloc: Global,
     file: &[u8],
@@ -63,25 +63,29 @@ fn emulated<R: Threads + Sync>(
 }
 
 /// The image of `SOURCE`.
-fn image<R: Threads + Sync>(rt: &R, alloc: Global) -> Result<Bytes, AllocError> {
+fn image<R: AllocGlobal + Threads + Sync>(rt: &R, alloc: Global) -> Result<Bytes, AllocError> {
     Ok(report_of(rt, alloc, &["compile", "in", "out"], SOURCE, &[])?.out)
 }
 
 #[test]
-fn compiled_images_run(rt: HostRuntime) -> Result<(), Fail> {
-    let file = image(&rt, rt.alloc())?;
+fn images_run_for_so_many_steps(rt: HostRuntime) -> Result<(), Fail> {
+    // addi x10, x0, 5; addi x17, x0, 93; ecall
+    let code = [
+        0x13, 0x05, 0x50, 0x00, 0x93, 0x08, 0xd0, 0x05, 0x73, 0x00, 0x00, 0x00,
+    ];
+    let headers = headers_with(&HEADERS, 96, 8, 12);
+    let headers = headers_with(&headers, 104, 8, 12);
+    let file = file_of(rt.alloc(), &headers, &code)?;
     let rows: [(&str, u8, &str); 4] = [
-        ("28", 0, ""),
-        ("27", 75, "spent 27\n"),
+        ("3", 5, ""),
+        ("2", 75, "spent 2\n"),
         ("1", 75, "spent 1\n"),
-        ("1000000000000000000", 0, ""),
+        ("1000000000000000000", 5, ""),
     ];
     for (steps, status, text) in rows {
         let report = emulated(&rt, rt.alloc(), file.as_slice(), steps)?;
         assert_eq!(rt; report.status, status);
         assert_eq!(rt; report.text.as_slice(), text.as_bytes());
-        let output: &[u8] = if steps == "1" { b"" } else { b"a\n" };
-        assert_eq!(rt; report.output.as_slice(), output);
         assert_eq!(rt; report.again, status);
     }
     Ok(())
@@ -93,7 +97,10 @@ fn failed_writes_reach_the_image(rt: HostRuntime) -> Result<(), Fail> {
     let mut shelf = MemShelf::new(rt.alloc())?;
     shelf.add("in", file.as_slice(), ROOM)?;
     let words = words_of(rt.alloc(), &["emulate", "in"])?;
-    let (status, text, output) = run(&rt, rt.alloc(), &words, &mut shelf, &[1])?;
+    let (status, _text, output) = run(&rt, rt.alloc(), &words, &mut shelf, b"", &[])?;
+    assert_eq!(rt; status, 0);
+    assert_eq!(rt; output.as_slice(), b"a\n".as_slice());
+    let (status, text, output) = run(&rt, rt.alloc(), &words, &mut shelf, b"", &[1])?;
     assert_eq!(rt; status, 3);
     assert_eq!(rt; text.as_slice(), b"io\n".as_slice());
     assert_eq!(rt; output.as_slice(), b"".as_slice());
@@ -103,7 +110,11 @@ fn failed_writes_reach_the_image(rt: HostRuntime) -> Result<(), Fail> {
 #[test]
 fn bad_images_are_refused(rt: HostRuntime) -> Result<(), Fail> {
     let compiled = report_of(&rt, rt.alloc(), &["compile", "in", "out"], b"", &[])?;
-    for (length, text) in [(100usize, "bad image: 1\n"), (150, "bad image: 4 0\n")] {
+    for (length, text) in [
+        (100usize, "bad image: 1\n"),
+        (150, "bad image: 1\n"),
+        (4096, "bad image: 4 0\n"),
+    ] {
         let cut = &compiled.out.as_slice()[..length.min(compiled.out.len())];
         let report = emulated(&rt, rt.alloc(), cut, "5")?;
         assert_eq!(rt; report.status, 76);

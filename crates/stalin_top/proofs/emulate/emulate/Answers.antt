@@ -3,4 +3,4 @@ use Rattle.stalin_top.proofs.emulate.emulate.Goals as goal
 
 pub returns-in-Whole-clause-run : goal.returns-in-Whole-clause-run
 returns-in-Whole-clause-run g c =
-    emulation _ _ _ _ _ _ _ _ c.in-Whole.ensures.content c.as_slice.ensures c.run.ensures
+    emulation _ _ _ _ _ _ _ _ c.in-Whole.ensures.content c.as_slice.ensures c.emulate_file.ensures

@@ -1,11 +1,15 @@
 use Rattle.std.proofs.Common.{refl}
 use Rattle.stalin_top.proofs.Emulations.{emulates}
-use Rattle.stalin_top.proofs.Outcomes.{compiles}
+use Rattle.stalin_top.proofs.Outcomes.{compiles, runs_so}
 use Rattle.stalin_top.proofs.top.run_command.Goals as goal
 
 pub returns-in-Compile-clause-does : goal.returns-in-Compile-clause-does
 returns-in-Compile-clause-does g c =
-    rw c.in-Compile.is (compiles _ _ _ _ _ c.compile.ensures.outcome c.compile.ensures.asks refl)
+    rw c.in-Compile.is (compiles _ _ _ _ _ _ c.compile.ensures.outcome c.compile.ensures.asks refl)
+
+pub returns-in-Run-clause-does : goal.returns-in-Run-clause-does
+returns-in-Run-clause-does g c =
+    rw c.in-Run.is (runs_so _ _ _ _ _ _ c.run.ensures.files c.run.ensures.outcome c.run.ensures.asks)
 
 pub returns-in-Emulate-clause-does : goal.returns-in-Emulate-clause-does
 returns-in-Emulate-clause-does g c =

@@ -1,0 +1,4 @@
+pub mod Files
+pub mod InRows
+pub mod Laid
+pub mod Refusals

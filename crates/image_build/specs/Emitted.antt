@@ -1,0 +1,140 @@
+-- What the compiler answers: the file of a program, or why there is none.
+use Rattle.std.specs.Prelude.{◌≡◌, ℕ, ◌<◌, ◌≤◌, ◌^◌, List, ◌∷◌, ◌⊎◌, map, length}
+use Rattle.std.specs.List.{range_with_len}
+use Rattle.scheme_base.specs.declared.error.LimitErr.{LimitErr}
+use Rattle.scheme_base.specs.declared.error.LimitErr.TheVariants as limited
+use Rattle.scheme_base.specs.declared.limit.Limit.{Limit}
+use Rattle.scheme_base.specs.declared.limit.LimitKind.TheVariants as kind
+use Rattle.core_form.specs.declared.program.Var.{Var}
+use Rattle.core_form.specs.Trees.{Trees}
+use Rattle.alpha_core.specs.Answers.{most}
+use Rattle.alpha_core.specs.Depth.{deepest}
+use Rattle.datum_form.specs.Data.{Items}
+use Rattle.datum_form.specs.declared.error.FormErr.{FormErr}
+use Rattle.datum_form.specs.declared.error.FormErr.TheVariants as broken
+use Rattle.datum_reader.specs.Answer.{Reads, ReadFault}
+use Rattle.datum_reader.specs.declared.error.ReadErr.{ReadErr}
+use Rattle.datum_reader.specs.declared.error.ReadErr.TheVariants as fault
+use Rattle.elf_write.specs.File.{file_of}
+use Rattle.elf_write.specs.Valid.{IsValid}
+use Rattle.rv_form.specs.declared.image.Image.{Image}
+use Rattle.named_form.specs.Code.{program}
+use Rattle.named_form.specs.PlainPlan.{plain}
+use Rattle.named_form.specs.Valid.{WellFormed}
+use Rattle.named_form.specs.Written.{form}
+use Rattle.named_form.specs.declared.plan.Plan.{Plan}
+use Rattle.named_form.specs.declared.program.Named.{Named}
+use Rattle.flat_form.specs.FlatWritten.{form as flat_form_of}
+use Rattle.flat_form.specs.declared.program.Flat.{Flat}
+use Rattle.closure_conv.specs.FlatOf.{flat_of}
+use Rattle.const_data.specs.Words.{data_words, offsets_of}
+use Rattle.const_data.specs.declared.offsets.Offsets.{Offsets}
+use Rattle.const_data.specs.declared.word.Word.{Word}
+use Rattle.rv_asm.specs.declared.item.AsmItem.{AsmItem}
+use Rattle.rv_asm.specs.Layout.{image_of, image_size, cut}
+use Rattle.image_support.specs.Text.{text as routines}
+use Rattle.tail_codegen.specs.Written.{code_of}
+use Rattle.image_build.specs.declared.error.BuildErr.{BuildErr}
+use Rattle.image_build.specs.declared.error.BuildErr.TheVariants.{Read, Form, Limit as Passed, NoMemory}
+
+-- What each pass's refusal is told as
+
+abbrev pub told_read : ReadErr → BuildErr
+told_read (fault.TooLong n) = Passed (record { which = kind.Source; count = n })
+told_read (fault.TooDeep p) = Passed (record { which = kind.Nesting; count = 1001 })
+told_read fault.NoMemory = NoMemory
+told_read e = Read e
+
+abbrev pub told_form : FormErr → BuildErr
+told_form broken.NoMemory = NoMemory
+told_form e = Form e
+
+abbrev pub told_limit : LimitErr → BuildErr
+told_limit (limited.Limit l) = Passed l
+told_limit limited.NoMemory = NoMemory
+
+-- What is built
+
+-- a text reads as data
+abbrev pub IsRead : List ℕ → Type 0
+IsRead source = (read : Items) × Reads source read
+
+-- the flat program of a named one under a storage plan, which is the plain plan of a well-formed program
+pub record IsFlat (named : Named) (flat : Flat) : Type 0 where
+  pub plan : Plan
+  pub is_plain : WellFormed (form named) → plan ≡ plain (form named)
+  pub is : flat_form_of flat ≡ flat_of plan named.tops (program (form named).procs (form named).lits)
+
+abbrev pub Pieces : Type 0
+Pieces = List (List AsmItem)
+
+-- the code of so many procedures of a flat program, whose data words stand at these offsets, from one on
+abbrev pub codes_from : Flat → Offsets → (first count : ℕ) → Pieces
+codes_from flat offsets first count = map (code_of flat offsets) (range_with_len first count)
+
+-- the text of a program: the routines, then the code of each procedure in their order
+abbrev pub text_with : Flat → Offsets → Pieces
+text_with flat offsets = routines ∷ codes_from flat offsets 0 (length flat.procs)
+
+abbrev pub text_of : Flat → Pieces
+text_of flat = text_with flat (offsets_of (flat_form_of flat))
+
+abbrev pub words_of : Flat → List Word
+words_of flat = data_words (flat_form_of flat)
+
+-- the bytes of a program's text and data
+abbrev pub size_of : Flat → ℕ
+size_of flat = image_size (text_of flat) (words_of flat)
+
+-- the image of a flat program with a heap of so many bytes, which may be loaded
+pub record IsImage (flat : Flat) (heap : ℕ) (image : Image) : Type 0 where
+  pub small : size_of flat ≤ 2 ^ 28
+  pub laid : image ≡ image_of (text_of flat) (words_of flat) heap
+  pub valid : IsValid image
+
+-- The file of the program that a text is, with a heap of so many bytes. Whoever worked on it, and how many,
+-- has no part in it.
+pub record Emitted (source : List ℕ) (heap : ℕ) (file : List ℕ) : Type 0 where
+  pub read : IsRead source
+  pub named : Named
+  pub flat : Flat
+  pub is_flat : IsFlat named flat
+  pub image : Image
+  pub is_image : IsImage flat heap image
+  pub written : file ≡ file_of image
+
+-- Why there is none
+
+-- some expressions are nested deeper than they may be, and so deep as the limit says
+pub record IsTooDeep (limit : Limit) : Type 0 where
+  pub which : limit.which ≡ kind.Depth
+  pub forms : Trees Var
+  pub count : limit.count ≡ deepest forms
+  pub deep : most < deepest forms
+
+-- text and data of a flat program have so many bytes as the limit says, more than 2^28
+pub record IsTooLarge (flat : Flat) (limit : Limit) : Type 0 where
+  pub which : limit.which ≡ kind.Image
+  pub large : 2 ^ 28 < size_of flat
+  pub count : limit.count ≡ cut (size_of flat)
+
+-- why the layout of a flat program has no image
+abbrev pub IsUnlaid : Flat → LimitErr → Type 0
+IsUnlaid flat (limited.Limit l) = IsTooLarge flat l
+IsUnlaid flat limited.NoMemory = Unit {0}
+
+-- a limit past which a pass behind the reader refuses
+abbrev pub PassesLater : Limit → Type 0
+PassesLater l = IsTooDeep l ⊎ ((named : Named) × (flat : Flat) × IsFlat named flat × IsTooLarge flat l)
+
+-- a refusal of a pass behind the reader
+abbrev pub IsLater : BuildErr → Type 0
+IsLater (Read e) = ⊥
+IsLater (Form e) = Unit {0}
+IsLater (Passed l) = PassesLater l
+IsLater NoMemory = Unit {0}
+
+-- why a text has no file at the reader, or behind it
+abbrev pub Refuses : List ℕ → (heap : ℕ) → BuildErr → Type 0
+Refuses source heap error =
+    ((e : ReadErr) × ReadFault source e × (error ≡ told_read e)) ⊎ (IsRead source × IsLater error) ⊎ (error ≡ NoMemory)
