@@ -1,14 +1,13 @@
-//! How long the plain solver takes on a long chain of rules, and on many rows of many atoms.
-//!
-//! What it prints is the same on every machine; the time is taken from outside, as `time` does.
-#![tactic(auto)]
+//! The plain solver on a long chain of rules, and on many rows of many atoms.
 
+use crate::ones::count_ones;
 use flow_form::{Constraints, Give, Rule, Rules};
 use flow_plain::solve_plain;
-use std::alloc::{AllocError, Global};
+use std::alloc::{AllocError, AllocGlobal, Global};
 use std::io;
+use std::io::Print;
 
-fn main(rt: HostRuntime) -> io::Result<()> {
+pub(crate) fn chains<R: AllocGlobal + Print>(rt: &R) -> io::Result<()> {
     for (rows, atoms) in [(5_000, 1), (2_000, 500)] {
         let Some(c) = chain_of_rows(rt.alloc(), rows, atoms)? else {
             println!(rt; "rows {rows}, atoms {atoms}: too many")?;
@@ -40,12 +39,4 @@ fn give_to(give: Give, to: u32) -> Rule {
         give,
         to,
     }
-}
-
-fn count_ones(words: &[u64]) -> u64 {
-    let mut ones: u64 = 0;
-    for word in words {
-        ones = ones.saturating_add(u64::from(word.count_ones()));
-    }
-    ones
 }

@@ -1,7 +1,4 @@
-//! How long the emulator takes for 100 million instructions of a loop that loads and stores a word.
-//!
-//! What it prints is the same on every machine; the time is taken from outside, as `time` does.
-#![tactic(auto)]
+//! The emulator on 100 million instructions of a loop that loads and stores a word.
 
 ghost use Rattle.std.specs.Prelude.{IfOk};
 ghost use Rattle.rv_emulator.specs.Loading.{IsLoadable};
@@ -10,8 +7,9 @@ use rv_emulator::{RunEnd, load};
 use rv_form::{Image, Segment, Segments};
 use scheme_base::Bytes;
 use stalin_outside::MemConsole;
-use std::alloc::{AllocError, Global};
+use std::alloc::{AllocError, AllocGlobal, Global};
 use std::io;
+use std::io::Print;
 
 /// Twenty million turns of a loop, and the lowest byte of their sum as the status.
 const CODE: [u8; 48] = [
@@ -52,7 +50,7 @@ fn loop_image(alloc: Global) -> Result<Image, AllocError>
     })
 }
 
-fn main(rt: HostRuntime) -> io::Result<()> {
+pub(crate) fn turns<R: AllocGlobal + Print>(rt: &R) -> io::Result<()> {
     let image = loop_image(rt.alloc())?;
     let mut machine = load(rt.alloc(), &image)?;
     let mut console = MemConsole::new(rt.alloc(), &[], 0, &[])?;
