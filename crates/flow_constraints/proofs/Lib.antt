@@ -1,0 +1,9 @@
+pub mod Labelled
+pub mod Counted
+pub mod Refused
+pub mod Parts
+pub mod Endings
+pub mod Sites
+pub mod BlockCounts
+pub mod LaidOut
+mod WorkedRules

@@ -1,0 +1,51 @@
+use Rattle.std.proofs.Common.{map, sym, ap, ◌∙◌, subst}
+use Rattle.flow_form.specs.Shape.{IsMadeOf}
+use Rattle.named_form.specs.Code.{first_sites}
+use Rattle.named_form.specs.Written.{form, procedure}
+use Rattle.flow_constraints.specs.Counting.{procs_count}
+use Rattle.flow_constraints.specs.Walk.{put_procs}
+use Rattle.flow_constraints.proofs.Refused.{made_is, rules_decide}
+use Rattle.flow_constraints.proofs.constraints.generate.Goals as goal
+
+pub returns-in-Some-past-clause-refused : goal.returns-in-Some-past-clause-refused
+returns-in-Some-past-clause-refused c =
+    let n = c.args.named.now in
+    let flow = c.in-Ok.flow in
+    let atoms = c.in-Ok-narrow.atoms in
+    let count = c.in-Ok-count_rules.count in
+    rules_decide (form n) flow atoms count _ c.in-Ok.ensures (c.in-Ok-narrow.ensures ∙ c.len.ensures)
+    (sym c.table_limit.ensures ∙ c.in_default-table_limit.is)
+    (c.in-Ok-count_rules.ensures
+    ∙ (ap (λ ls. procs_count flow ls (map procedure c.as_slice-procs.result.now)) c.as_slice-lits.ensures
+    ∙ ap (λ ps. procs_count flow n.lits (map procedure ps)) c.as_slice-procs.ensures))
+    (sym c.past.ensures ∙ c.in-Some-past.is)
+
+pub returns-in-Ok-listed-clause-made : goal.returns-in-Ok-listed-clause-made
+returns-in-Ok-listed-clause-made c =
+    let n = c.args.named.now in
+    let flow = c.in-Ok.flow in
+    let atoms = c.in-Ok-narrow.atoms in
+    let made = c.in-Ok-listed.constraints in
+    made_is (form n) flow made atoms c.in-Ok.ensures (c.in-Ok-narrow.ensures ∙ c.len.ensures)
+    (subst
+    (λ ps. IsMadeOf made flow.rows atoms (put_procs flow n.lits (first_sites (map procedure ps)) (map procedure ps)))
+    c.as_slice-procs.ensures
+    (subst
+    (λ ls.
+    IsMadeOf made flow.rows atoms
+    (put_procs flow ls (first_sites (map procedure c.as_slice-procs.result.now)) (map procedure c.as_slice-procs.result.now)))
+    c.as_slice-lits.ensures
+    c.in-Ok-listed.ensures))
+
+pub returns-in-Ok-listed-clause-within : goal.returns-in-Ok-listed-clause-within
+returns-in-Ok-listed-clause-within c =
+    let n = c.args.named.now in
+    let flow = c.in-Ok.flow in
+    let atoms = c.in-Ok-narrow.atoms in
+    let count = c.in-Ok-count_rules.count in
+    rules_decide (form n) flow atoms count _ c.in-Ok.ensures (c.in-Ok-narrow.ensures ∙ c.len.ensures)
+    (sym c.table_limit.ensures ∙ c.in_default-table_limit.is)
+    (c.in-Ok-count_rules.ensures
+    ∙ (ap (λ ls. procs_count flow ls (map procedure c.as_slice-procs.result.now)) c.as_slice-lits.ensures
+    ∙ ap (λ ps. procs_count flow n.lits (map procedure ps)) c.as_slice-procs.ensures))
+    (sym c.past.ensures ∙ c.in_default-past.is)

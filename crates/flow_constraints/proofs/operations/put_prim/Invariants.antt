@@ -1,0 +1,8 @@
+use Rattle.std.proofs.Common.{◌≡◌, ◌++◌, drop, map}
+use Rattle.flow_constraints.specs.Table.{atom_in}
+use Rattle.flow_constraints.proofs.operations.put_prim.Given as goal
+
+abbrev pub invariant-loop-atom : goal.invariant-loop-atom
+invariant-loop-atom l =
+    l.rules ++ map (λ a. atom_in l.deed.guard a l.deed.value) (drop l.atom-index l.atom-items)
+    ≡ l.initial.rules ++ map (λ a. atom_in l.deed.guard a l.deed.value) l.atom-items
