@@ -65,24 +65,22 @@ abbrev pub SeenBelow : Constraints → (base : List ℕ) → Held → Rule → (
 SeenBelow c base pass rule at =
     (row atom : ℕ) → GivesTo c base rule row atom → atom / 64 < at → Seen c pass.view.worker row atom
 
-pub gift_more :
-    (c : Constraints) (table : Opened) (before after : Held) (rule : Rule) (at mask : ℕ)
-    → rule.to < c.rows → at < stride_of c → Steps c table before after
-    → ((bit : ℕ) → bit < 64 → GivesAtom (In c table.base) rule.give (64 * at + bit) → bit_at mask bit ≡ 1)
-    → MaskWithin c (rule.to * stride_of c + at) mask (Seen c after.view.worker)
-    → SeenBelow c table.base before rule at → SeenBelow c table.base after rule (at + 1)
-gift_more c table before after rule at mask to_there at_there steps exact seen so_far row atom h near =
-    elim (cases_lt (atom / 64) at) [
-      | inl below ↦ seen_on c table before after steps row atom (so_far row atom h below)
-      | inr above ↦
-          let word : atom / 64 ≡ at = omega arith in
-          let whole : atom ≡ 64 * at + atom % 64 = omega arith in
-          let to : row ≡ rule.to = h.to in
-          let Gift : ℕ → Type 0 = λ n. GivesAtom (In c table.base) rule.give n in
-          let place : row * stride_of c + atom / 64 ≡ rule.to * stride_of c + at =
-          ap (λ r. r * stride_of c + atom / 64) to ∙ ap (λ n. rule.to * stride_of c + n) word in
-          seen row atom (omega arith) (omega arith) place (exact (atom % 64) (omega arith) (subst Gift whole h.given))
-    ]
+-- what the rule gives in one word of its row has been seen
+abbrev pub SeenWord : Constraints → (base : List ℕ) → Held → Rule → (at : ℕ) → Type 0
+SeenWord c base pass rule at =
+    (row atom : ℕ) → GivesTo c base rule row atom → atom / 64 ≡ at → Seen c pass.view.worker row atom
+
+pub gift_word :
+    (c : Constraints) (base : List ℕ) (after : Held) (rule : Rule) (at mask : ℕ) → rule.to < c.rows → at < stride_of c
+    → ((bit : ℕ) → bit < 64 → GivesAtom (In c base) rule.give (64 * at + bit) → bit_at mask bit ≡ 1)
+    → MaskWithin c (rule.to * stride_of c + at) mask (Seen c after.view.worker) → SeenWord c base after rule at
+gift_word c base after rule at mask to_there at_there exact seen row atom h word =
+    let whole : atom ≡ 64 * at + atom % 64 = omega arith in
+    let to : row ≡ rule.to = h.to in
+    let Gift : ℕ → Type 0 = λ n. GivesAtom (In c base) rule.give n in
+    let place : row * stride_of c + atom / 64 ≡ rule.to * stride_of c + at =
+    ap (λ r. r * stride_of c + atom / 64) to ∙ ap (λ n. rule.to * stride_of c + n) word in
+    seen row atom (omega arith) (omega arith) place (exact (atom % 64) (omega arith) (subst Gift whole h.given))
 
 -- what a loop over the words of a row keeps
 pub record GivesRow (c : Constraints) (table : Opened) (before pass : Held) (rule : Rule) (at : ℕ) : Type 0 where
@@ -169,22 +167,29 @@ follows_row c table before after rule row at found from place listed steps holds
     (follows_gift c after.view.worker.loaded rule at found listed (holds_on c table before after rule steps holds) at_there
     (gives_loaded c after.view.worker.loaded rule.give row at found is row_there at_there (subst From at_from within)))
 
-pub gives_row_more :
-    (c : Constraints) (table : Opened) (first before loaded after : Held) (rule : Rule) (row at found from place : ℕ)
-    → IsListed c rule → GivesRow c table first before rule at → Steps c table before loaded → Steps c table loaded after
-    → rule.give ≡ Row row → at < stride_of c → from ≡ row * stride_of c + at
-    → place ≡ rule.to * stride_of c + at → HasPairs c from found (In c table.base)
-    → MaskWithin c place found (Seen c after.view.worker)
-    → GivesRow c table first after rule (at + 1)
-gives_row_more c table first before loaded after rule row at found from place listed so_far load set is at_there at_from at_place has seen =
+pub gives_word :
+    (c : Constraints) (base : List ℕ) (after : Held) (rule : Rule) (row at found from place : ℕ) → IsListed c rule
+    → rule.give ≡ Row row → at < stride_of c → from ≡ row * stride_of c + at → place ≡ rule.to * stride_of c + at
+    → HasPairs c from found (In c base) → MaskWithin c place found (Seen c after.view.worker)
+    → SeenWord c base after rule at
+gives_word c base after rule row at found from place listed is at_there at_from at_place has seen =
     let names = names_of c rule listed in
-    let From : ℕ → Type 0 = λ p. HasPairs c p found (In c table.base) in
+    let From : ℕ → Type 0 = λ p. HasPairs c p found (In c base) in
     let At : ℕ → Type 0 = λ p. MaskWithin c p found (Seen c after.view.worker) in
-    let steps = steps_trans c table before loaded after load set in
+    gift_word c base after rule at found names.to at_there
+    (found_gives c base rule.give row at found is (subst From at_from has)) (subst At at_place seen)
+
+-- ---- a row, word by word
+pub gives_row_more :
+    (c : Constraints) (table : Opened) (first before after : Held) (rule : Rule) (at : ℕ)
+    → GivesRow c table first before rule at → Steps c table before after → SeenWord c table.base after rule at
+    → GivesRow c table first after rule (at + 1)
+gives_row_more c table first before after rule at so_far steps here =
     record {
       steps = steps_trans c table first before after so_far.steps steps;
-      seen =
-          gift_more c table before after rule at found names.to at_there steps
-          (found_gives c table.base rule.give row at found is (subst From at_from has))
-          (subst At at_place seen) so_far.seen;
+      seen = λ row atom h near.
+          elim (cases_lt (atom / 64) at) [
+            | inl below ↦ seen_on c table before after steps row atom (so_far.seen row atom h below)
+            | inr above ↦ here row atom h (omega arith)
+          ];
     }

@@ -7,6 +7,10 @@
 #![tactic(auto)]
 
 mod block;
+mod drain;
+mod found;
+mod notes;
+mod readers;
 mod round;
 mod rounds;
 mod rule;

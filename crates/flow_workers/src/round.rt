@@ -7,7 +7,10 @@ ghost use Rattle.flow_form.specs.Shape.{blocks_of, done_size_of};
 ghost use Rattle.type_table.specs.Tables.{IsOf, base_of, rounds_of};
 ghost use Rattle.flow_workers.specs.Rounds.{AreSettled, IsRound};
 
-use crate::block::do_block;
+use crate::block::{do_block, do_noting};
+use crate::drain::drain;
+use crate::notes::Notes;
+use crate::readers::Readers;
 use bit_rows::contains;
 use flow_form::Constraints;
 use stalin_outside::Gate;
@@ -22,6 +25,7 @@ pub(crate) fn round<R: AllocGlobal + Threads + Sync, G: Gate>(
     c: &Constraints,
     last: Option<&Closed>,
     settled: &[u64],
+    readers: &Readers,
     workers: u32,
     gate: &G,
 ) -> Result<Closed, AllocError>
@@ -34,7 +38,18 @@ pub(crate) fn round<R: AllocGlobal + Threads + Sync, G: Gate>(
     ensures { IfOk result (IsRound c.now (base_of c.now (option_copied last.entry)) (rounds_of (option_copied last.entry))) }
 {
     let (table, pass) = TypeTable::open(rt.alloc(), c, last)?;
-    let mut pass = run(rt, rt.alloc(), c, &table, pass, settled, 0, workers, gate);
+    let mut pass = run(
+        rt,
+        rt.alloc(),
+        c,
+        &table,
+        pass,
+        settled,
+        readers,
+        0,
+        workers,
+        gate,
+    );
     do_rest(c, &table, &mut pass, settled, gate);
     Ok(table.close(pass))
 }
@@ -48,6 +63,7 @@ fn run<R: Threads + Sync, G: Gate>(
     table: &TypeTable,
     mut pass: Pass,
     settled: &[u64],
+    readers: &Readers,
     first: u32,
     workers: u32,
     gate: &G,
@@ -60,11 +76,11 @@ fn run<R: Threads + Sync, G: Gate>(
     ensures { IsOf result table.now }
 {
     if workers == 1 {
-        draw(c, table, &mut pass, settled, first, gate);
+        draw(alloc, c, table, &mut pass, settled, readers, first, gate);
         return pass;
     }
     let Ok(second) = table.split(alloc, &mut pass) else {
-        draw(c, table, &mut pass, settled, first, gate);
+        draw(alloc, c, table, &mut pass, settled, readers, first, gate);
         return pass;
     };
     let half = workers / 2;
@@ -74,7 +90,11 @@ fn run<R: Threads + Sync, G: Gate>(
         || -> Pass
             requires { IsSync R.row × IsSync G.row × (table.now.constraints ≡ c.now) × IsOf pass table.now × (length settled.now ≡ done_size_of c.now) × (0 < half) × (first + half ≤ 32) }
             ensures { IsOf result table.entry.now }
-        { run(rt, alloc, c, table, pass, settled, first, half, gate) },
+        {
+            run(
+                rt, alloc, c, table, pass, settled, readers, first, half, gate,
+            )
+        },
         || -> Pass
             requires { IsSync R.row × IsSync G.row × (table.now.constraints ≡ c.now) × IsOf second table.now × (length settled.now ≡ done_size_of c.now) × (0 < others) × (first + half + others ≤ 32) }
             ensures { IsOf result table.entry.now }
@@ -86,6 +106,7 @@ fn run<R: Threads + Sync, G: Gate>(
                 table,
                 second,
                 settled,
+                readers,
                 first + half,
                 others,
                 gate,
@@ -96,14 +117,37 @@ fn run<R: Threads + Sync, G: Gate>(
     one
 }
 
-/// Draws blocks and does those that are not settled, until none is left.
-///
-/// A worker draws at most once more than there are blocks.
+/// Draws blocks and does those that are not settled, until none is left, and then follows what it has
+/// grown.
 fn draw<G: Gate>(
+    alloc: Global,
     c: &Constraints,
     table: &TypeTable,
     pass: &mut Pass,
     settled: &[u64],
+    readers: &Readers,
+    worker: u32,
+    gate: &G,
+)
+    requires opened { table.now.constraints ≡ c.now }
+    requires of { IsOf pass.old table.now }
+    requires size { length settled.now ≡ done_size_of c.now }
+    ensures { IsOf pass.new table.now }
+{
+    let mut notes = Notes::new(alloc, c, readers);
+    draw_all(c, table, pass, settled, &mut notes, worker, gate);
+    drain(c, table, pass, &mut notes);
+}
+
+/// Draws blocks and does those that are not settled, until none is left.
+///
+/// A worker draws at most once more than there are blocks.
+fn draw_all<G: Gate>(
+    c: &Constraints,
+    table: &TypeTable,
+    pass: &mut Pass,
+    settled: &[u64],
+    notes: &mut Notes,
     worker: u32,
     gate: &G,
 )
@@ -119,7 +163,7 @@ fn draw<G: Gate>(
             return;
         }
         if !contains(settled, block as u32) {
-            do_block(c, table, pass, worker, block as u32, gate);
+            do_noting(c, table, pass, notes, worker, block as u32, gate);
         }
     }
 }

@@ -4,6 +4,7 @@ ghost use Rattle.std.specs.Bool.{MatchBool};
 ghost use Rattle.bit_rows.specs.Members.{IsMember};
 ghost use Rattle.flow_workers.specs.Rounds.{IsSolved, Reaches};
 
+use crate::readers::Readers;
 use crate::round::round;
 use crate::settled::{grown_rows, settled_blocks};
 use bit_rows::next_member;
@@ -12,6 +13,9 @@ use stalin_outside::Gate;
 use std::alloc::{AllocError, AllocGlobal};
 use std::thread::Threads;
 use type_table::Closed;
+
+/// So many blocks are done as fast again as an index of them is made.
+const FEW_BLOCKS: u32 = 64;
 
 /// What a round left, and the rows that grew in it, a bit for each.
 #[derive(Drop)]
@@ -36,11 +40,22 @@ pub fn solve<R: AllocGlobal + Threads + Sync, G: Gate>(
     requires most { workers ≤ 32 }
     ensures { IfOk result (IsSolved c.now) }
 {
-    let mut reached = first_round(rt, c, workers, gate)?;
+    let readers = readers_of(rt, c, workers);
+    let mut reached = first_round(rt, c, &readers, workers, gate)?;
     while some_grew(c, reached.grown.as_slice()) {
-        reached = next_round(rt, c, &reached, workers, gate)?;
+        reached = next_round(rt, c, &reached, &readers, workers, gate)?;
     }
     Ok(reached.closed)
+}
+
+/// The index that workers follow: an empty one where there are few blocks, or no memory for it.
+fn readers_of<R: AllocGlobal + Threads + Sync>(rt: &R, c: &Constraints, workers: u32) -> Readers {
+    if c.blocks() > FEW_BLOCKS {
+        if let Ok(readers) = Readers::new(rt, c, workers) {
+            return readers;
+        }
+    }
+    Readers::none(rt.alloc())
 }
 
 /// Whether some row grew.
@@ -55,6 +70,7 @@ fn some_grew(c: &Constraints, grown: &[u64]) -> bool
 fn first_round<R: AllocGlobal + Threads + Sync, G: Gate>(
     rt: &R,
     c: &Constraints,
+    readers: &Readers,
     workers: u32,
     gate: &G,
 ) -> Result<Reached, AllocError>
@@ -65,7 +81,7 @@ fn first_round<R: AllocGlobal + Threads + Sync, G: Gate>(
     let alloc = rt.alloc();
     let base = no_pairs(alloc, c)?;
     let settled = vec![in alloc; 0; c.blocks().div_ceil(64) as usize]?;
-    let closed = round(rt, c, None, settled.as_slice(), workers, gate)?;
+    let closed = round(rt, c, None, settled.as_slice(), readers, workers, gate)?;
     let rows = closed.rows();
     let grown = grown_rows(alloc, c, base.words.as_slice(), rows.words.as_slice())?;
     Ok(Reached { closed, grown })
@@ -76,6 +92,7 @@ fn next_round<R: AllocGlobal + Threads + Sync, G: Gate>(
     rt: &R,
     c: &Constraints,
     last: &Reached,
+    readers: &Readers,
     workers: u32,
     gate: &G,
 ) -> Result<Reached, AllocError>
@@ -88,7 +105,15 @@ fn next_round<R: AllocGlobal + Threads + Sync, G: Gate>(
 {
     let alloc = rt.alloc();
     let settled = settled_blocks(alloc, c, last.grown.as_slice())?;
-    let closed = round(rt, c, Some(&last.closed), settled.as_slice(), workers, gate)?;
+    let closed = round(
+        rt,
+        c,
+        Some(&last.closed),
+        settled.as_slice(),
+        readers,
+        workers,
+        gate,
+    )?;
     let base = last.closed.rows();
     let rows = closed.rows();
     let grown = grown_rows(alloc, c, base.words.as_slice(), rows.words.as_slice())?;

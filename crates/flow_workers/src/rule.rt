@@ -1,16 +1,17 @@
 //! What one rule reads and gives, word by word in the shared rows.
-ghost use Rattle.std.specs.Prelude.{◌≡◌, ◌≢◌, ℕ, ◌+◌, ◌*◌, ◌<◌, ◌↔◌, length};
+ghost use Rattle.std.specs.Prelude.{◌≡◌, ◌≢◌, ℕ, ◌+◌, ◌*◌, ◌/◌, ◌<◌, ◌↔◌, length};
 ghost use Rattle.std.specs.Bool.{MatchBool};
 ghost use Rattle.std.specs.Int.{bit_at};
 ghost use Rattle.flow_form.specs.Least.{TestHolds, Within};
 ghost use Rattle.flow_form.specs.Race.{Seen};
-ghost use Rattle.flow_form.specs.Shape.{In};
+ghost use Rattle.flow_form.specs.Shape.{In, stride_of};
 ghost use Rattle.flow_form.specs.Valid.{TestNames};
 ghost use Rattle.flow_form.specs.declared.rule.Give.TheVariants.{Row};
 ghost use Rattle.flow_plain.specs.Rules.{GivesTo};
 ghost use Rattle.type_table.specs.Tables.{IsOf};
 ghost use Rattle.flow_workers.specs.Steps.{GivenAt, HoldsIn, IsListed, Steps};
 
+use crate::notes::Notes;
 use crate::step::{load, set};
 use flow_form::{Constraints, Give, Rule, Test};
 use type_table::{Pass, TypeTable};
@@ -82,7 +83,15 @@ fn test_holds(c: &Constraints, table: &TypeTable, pass: &mut Pass, test: Option<
 }
 
 /// Does what a rule says: the pass has then seen all that the rule gives from the base.
-pub(crate) fn apply(c: &Constraints, table: &TypeTable, pass: &mut Pass, index: usize)
+///
+/// Each test that holds is noted before anything is loaded that follows from it.
+pub(crate) fn apply(
+    c: &Constraints,
+    table: &TypeTable,
+    pass: &mut Pass,
+    notes: &mut Notes,
+    index: usize,
+)
     requires opened { table.now.constraints ≡ c.now }
     requires of { IsOf pass.old table.now }
     requires there { index < length c.now.rules }
@@ -90,13 +99,43 @@ pub(crate) fn apply(c: &Constraints, table: &TypeTable, pass: &mut Pass, index: 
     ensures served { Within (GivenAt c.now.rules index (In c.now table.now.base)) (Seen c.now pass.new.view.worker) }
 {
     let rule = &c.rules.as_slice()[index];
-    if test_holds(c, table, pass, rule.first) && test_holds(c, table, pass, rule.second) {
-        give(c, table, pass, rule);
+    if !test_holds(c, table, pass, rule.second) {
+        return;
+    }
+    notes.second_holds(index);
+    if test_holds(c, table, pass, rule.first) {
+        notes.both_hold(index, rule.give);
+        give(c, table, pass, notes, rule);
+    }
+}
+
+/// Gives one word of the row that a rule gives, where its tests hold.
+pub(crate) fn apply_word(
+    c: &Constraints,
+    table: &TypeTable,
+    pass: &mut Pass,
+    notes: &mut Notes,
+    index: usize,
+    at: u32,
+)
+    requires opened { table.now.constraints ≡ c.now }
+    requires of { IsOf pass.old table.now }
+    requires there { index < length c.now.rules }
+    ensures { Steps c.now table.now pass.old pass.new }
+{
+    let rule = &c.rules.as_slice()[index];
+    if let Give::Row(row) = rule.give {
+        if at < c.stride()
+            && test_holds(c, table, pass, rule.second)
+            && test_holds(c, table, pass, rule.first)
+        {
+            give_word(c, table, pass, notes, rule, row, at);
+        }
     }
 }
 
 /// Gives what a rule gives whose tests hold.
-fn give(c: &Constraints, table: &TypeTable, pass: &mut Pass, rule: &Rule)
+fn give(c: &Constraints, table: &TypeTable, pass: &mut Pass, notes: &mut Notes, rule: &Rule)
     requires opened { table.now.constraints ≡ c.now }
     requires of { IsOf pass.old table.now }
     requires listed { IsListed c.now rule.now }
@@ -109,15 +148,23 @@ fn give(c: &Constraints, table: &TypeTable, pass: &mut Pass, rule: &Rule)
             c,
             table,
             pass,
+            notes,
             rule.to * c.stride() + atom / 64,
             1 << (atom % 64),
         ),
-        Give::Row(row) => give_row(c, table, pass, rule, row),
+        Give::Row(row) => give_row(c, table, pass, notes, rule, row),
     }
 }
 
 /// Gives the atoms of a row, whole words at a time.
-fn give_row(c: &Constraints, table: &TypeTable, pass: &mut Pass, rule: &Rule, row: u32)
+fn give_row(
+    c: &Constraints,
+    table: &TypeTable,
+    pass: &mut Pass,
+    notes: &mut Notes,
+    rule: &Rule,
+    row: u32,
+)
     requires opened { table.now.constraints ≡ c.now }
     requires of { IsOf pass.old table.now }
     requires listed { IsListed c.now rule.now }
@@ -126,9 +173,31 @@ fn give_row(c: &Constraints, table: &TypeTable, pass: &mut Pass, rule: &Rule, ro
     ensures steps { Steps c.now table.now pass.old pass.new }
     ensures given { Within (GivesTo c.now table.now.base rule.now) (Seen c.now pass.new.view.worker) }
 {
-    let stride = c.stride();
-    for at in 0..stride {
-        let found = load(c, table, pass, row * stride + at);
-        set(c, table, pass, rule.to * stride + at, found);
+    for at in 0..c.stride() {
+        give_word(c, table, pass, notes, rule, row, at);
     }
+}
+
+/// Gives one word of a row.
+fn give_word(
+    c: &Constraints,
+    table: &TypeTable,
+    pass: &mut Pass,
+    notes: &mut Notes,
+    rule: &Rule,
+    row: u32,
+    at: u32,
+)
+    requires opened { table.now.constraints ≡ c.now }
+    requires of { IsOf pass.old table.now }
+    requires listed { IsListed c.now rule.now }
+    requires holds { HoldsIn (In c.now pass.old.view.worker.loaded) rule.now }
+    requires row { rule.now.give ≡ Row row }
+    requires there { at < stride_of c.now }
+    ensures steps { Steps c.now table.now pass.old pass.new }
+    ensures given { (to atom : ℕ) → GivesTo c.now table.now.base rule.now to atom → atom / 64 ≡ at → Seen c.now pass.new.view.worker to atom }
+{
+    let stride = c.stride();
+    let found = load(c, table, pass, row * stride + at);
+    set(c, table, pass, notes, rule.to * stride + at, found);
 }

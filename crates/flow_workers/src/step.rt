@@ -7,6 +7,7 @@ ghost use Rattle.type_table.specs.SharedWords.{HasPairs};
 ghost use Rattle.type_table.specs.Tables.{IsOf};
 ghost use Rattle.flow_workers.specs.Steps.{Steps};
 
+use crate::notes::Notes;
 use bit_rows::is_part;
 use flow_form::Constraints;
 use type_table::{Pass, TypeTable};
@@ -24,8 +25,15 @@ pub(crate) fn load(c: &Constraints, table: &TypeTable, pass: &mut Pass, word: u3
     table.load(pass, word)
 }
 
-/// Sets the bits of a mask in a word, unless they stand there.
-pub(crate) fn set(c: &Constraints, table: &TypeTable, pass: &mut Pass, word: u32, mask: u64)
+/// Sets the bits of a mask in a word, unless they stand there, and notes those that nobody had set.
+pub(crate) fn set(
+    c: &Constraints,
+    table: &TypeTable,
+    pass: &mut Pass,
+    notes: &mut Notes,
+    word: u32,
+    mask: u64,
+)
     requires opened { table.now.constraints ≡ c.now }
     requires of { IsOf pass.old table.now }
     requires there { word < size_of c.now }
@@ -38,6 +46,7 @@ pub(crate) fn set(c: &Constraints, table: &TypeTable, pass: &mut Pass, word: u32
     }
     let found = load(c, table, pass, word);
     if !is_part(mask, found) {
-        table.grow(pass, word, mask);
+        let before = table.grow(pass, word, mask);
+        notes.grew(word, mask & !before);
     }
 }

@@ -2,7 +2,7 @@ use Rattle.std.proofs.Common.{◌+◌, ◌*◌, ◌≤◌, ◌⊎◌, inl, inr, 
 use Rattle.std.proofs.lemmas.Bool.{cases_lt}
 use Rattle.flow_workers.proofs.Blocks.{block_seen, done_finish, rules_more, steps_finish}
 use Rattle.flow_workers.proofs.Steps.{steps_trans}
-use Rattle.flow_workers.proofs.block.do_block.Goals as goal
+use Rattle.flow_workers.proofs.block.do_noting.Goals as goal
 
 pub loop-index-preserved : goal.loop-index-preserved
 loop-index-preserved g c =

@@ -1,0 +1,5 @@
+use Rattle.flow_workers.specs.Steps.{Steps}
+use Rattle.flow_workers.proofs.drain.begin_run.Given as goal
+
+abbrev pub invariant-loop-rule : goal.invariant-loop-rule
+invariant-loop-rule l = Steps l.c l.table l.initial.pass l.pass

@@ -1,0 +1,5 @@
+use Rattle.flow_workers.specs.Steps.{Steps}
+use Rattle.flow_workers.proofs.drain.follow.Given as goal
+
+abbrev pub invariant-loop-part : goal.invariant-loop-part
+invariant-loop-part l = Steps l.c l.table l.initial.pass l.pass

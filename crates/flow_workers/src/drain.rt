@@ -1,0 +1,146 @@
+//! What a worker does when no block is left: it follows what it has grown.
+ghost use Rattle.std.specs.Prelude.{◌≡◌};
+ghost use Rattle.type_table.specs.Tables.{IsOf};
+ghost use Rattle.flow_workers.specs.Steps.{Steps};
+
+use crate::found::Found;
+use crate::notes::{Grown, Notes};
+use crate::readers::{Readers, Run, Thing};
+use crate::rule::{apply, apply_word};
+use flow_form::Constraints;
+use type_table::{Pass, TypeTable};
+
+/// Applies the rules that read what the pass has grown, and so on, until all that it has grown is followed.
+///
+/// Each item of the list has a bit that nobody had set before, so there are no more than the rows have bits.
+pub(crate) fn drain(c: &Constraints, table: &TypeTable, pass: &mut Pass, notes: &mut Notes)
+    requires opened { table.now.constraints ≡ c.now }
+    requires of { IsOf pass.old table.now }
+    ensures { Steps c.now table.now pass.old pass.new }
+{
+    let Some(readers) = notes.readers else {
+        return;
+    };
+    for _ in 0..c.size() * 64 {
+        let Some(grown) = notes.take() else {
+            return;
+        };
+        follow(c, table, pass, notes, readers, grown);
+    }
+}
+
+/// Applies the rules that read bits of a word.
+fn follow(
+    c: &Constraints,
+    table: &TypeTable,
+    pass: &mut Pass,
+    notes: &mut Notes,
+    readers: &Readers,
+    grown: Grown,
+)
+    requires opened { table.now.constraints ≡ c.now }
+    requires of { IsOf pass.old table.now }
+    ensures { Steps c.now table.now pass.old pass.new }
+{
+    let stride = c.stride().max(1);
+    let row = grown.word / stride;
+    let at = grown.word % stride;
+    for part in 0..readers.parts() {
+        follow_atoms(c, table, pass, notes, readers, part, row, at, grown.bits);
+        begin(c, table, pass, notes, readers, part, Thing::others(row));
+    }
+    pass_on(c, table, pass, notes, readers, row, at);
+}
+
+/// Applies the rules of a part that test for one of the atoms.
+fn follow_atoms(
+    c: &Constraints,
+    table: &TypeTable,
+    pass: &mut Pass,
+    notes: &mut Notes,
+    readers: &Readers,
+    part: usize,
+    row: u32,
+    at: u32,
+    bits: u64,
+)
+    requires opened { table.now.constraints ≡ c.now }
+    requires of { IsOf pass.old table.now }
+    ensures { Steps c.now table.now pass.old pass.new }
+{
+    let mut bits = bits;
+    for _ in 0..64 {
+        if bits == 0 {
+            return;
+        }
+        let atom = at.wrapping_mul(64).wrapping_add(bits.trailing_zeros());
+        begin(c, table, pass, notes, readers, part, Thing::atom(row, atom));
+        bits &= bits - 1;
+    }
+}
+
+/// Applies those rules of a part that test a thing and may give something for the first time.
+fn begin(
+    c: &Constraints,
+    table: &TypeTable,
+    pass: &mut Pass,
+    notes: &mut Notes,
+    readers: &Readers,
+    part: usize,
+    thing: Thing,
+)
+    requires opened { table.now.constraints ≡ c.now }
+    requires of { IsOf pass.old table.now }
+    ensures { Steps c.now table.now pass.old pass.new }
+{
+    for run in readers.of(part, thing) {
+        if run.thing == thing {
+            begin_run(c, table, pass, notes, &readers.found, *run);
+        }
+    }
+}
+
+fn begin_run(
+    c: &Constraints,
+    table: &TypeTable,
+    pass: &mut Pass,
+    notes: &mut Notes,
+    found: &Found,
+    run: Run,
+)
+    requires opened { table.now.constraints ≡ c.now }
+    requires of { IsOf pass.old table.now }
+    ensures { Steps c.now table.now pass.old pass.new }
+{
+    for rule in run.first as usize..(run.end as usize).min(c.rules.len()) {
+        if found.may_begin(rule, run.second) {
+            apply(c, table, pass, notes, rule);
+        }
+    }
+}
+
+/// Gives one word more of a row by those rules whose tests hold.
+fn pass_on(
+    c: &Constraints,
+    table: &TypeTable,
+    pass: &mut Pass,
+    notes: &mut Notes,
+    readers: &Readers,
+    row: u32,
+    at: u32,
+)
+    requires opened { table.now.constraints ≡ c.now }
+    requires of { IsOf pass.old table.now }
+    ensures { Steps c.now table.now pass.old pass.new }
+{
+    let mut next = readers.found.giver(row);
+    for _ in 0..c.rules.len() {
+        let Some(rule) = next else {
+            return;
+        };
+        if rule < c.rules.len() {
+            apply_word(c, table, pass, notes, rule, at);
+        }
+        next = readers.found.giver_before(rule);
+    }
+}
