@@ -1,9 +1,9 @@
 //! How long the parts of the compiler take, each on one large piece of work.
 //!
 //! Each word asks for one: `chains` and `plain` the plain solver, `small` and a number from 1 to 4 so many workers,
-//! `nested` and `names` the reader, `definitions` and `operands` the expander, `turns` the emulator. Any other word is
-//! the name of a file with a program, and the text of its core is printed. What is printed is the same on every
-//! machine, rounds of workers aside; the time is taken from outside, as `time` does.
+//! `nested` and `names` the reader, `definitions` and `operands` the expander, `turns`, `calls` and `strings` the
+//! emulator. Any other word is the name of a file with a program, and the text of its core is printed. What is
+//! printed is the same on every machine, rounds of workers aside; the time is taken from outside, as `time` does.
 #![tactic(auto)]
 
 mod emulator;
@@ -42,6 +42,8 @@ fn work<R: AllocGlobal + Files + Print + Threads + Sync>(rt: &R, word: &str) -> 
         "definitions" => expander::definitions(rt),
         "operands" => expander::operands(rt),
         "turns" => emulator::turns(rt),
+        "calls" => emulator::calls(rt),
+        "strings" => emulator::strings(rt),
         name => expander::file(rt, name),
     }
 }

@@ -1,15 +1,16 @@
 -- Instructions that were read once stay what is fetched.
-use Rattle.std.proofs.Common.{◌≡◌, ℕ, zero, suc, ◌++◌, ◌+◌, ◌-◌, ◌*◌, ◌/◌, ◌%◌, ◌^◌, ◌<◌, ◌≤◌, true, false, Bool, List, [], ◌∷◌, length, Option, Some, None, refl, sym, ap, subst, ◌∙◌, arith}
+use Rattle.std.proofs.Common.{◌≡◌, ℕ, suc, ◌++◌, ◌+◌, ◌-◌, ◌*◌, ◌%◌, ◌^◌, ◌<◌, true, false, Bool, List, [], ◌∷◌, length, Some, refl, sym, ap, subst, ◌∙◌, arith}
 use Rattle.std.proofs.Math.ListN.{get_or-append, length-append}
 use Rattle.std.proofs.Math.Seq.{get_or-append_seam}
 use Rattle.std.specs.Prelude.{nat_eq, nat_lt, ◌&&◌, slice_index_or}
-use Rattle.rv_form.specs.declared.instr.Instr.{Instr}
 use Rattle.rv_form.specs.Image.{Executing}
 use Rattle.rv_form.specs.Machine.{found, fetched, load, all_allowed}
 use Rattle.rv_form.specs.Instruction.{instruction_of}
 use Rattle.rv_emulator.specs.declared.region.Region.{Region}
 use Rattle.rv_emulator.specs.Memory.{flags_in, has_flag, loaded_by, memory_of, AreLow}
-use Rattle.rv_emulator.specs.States.{world_with, no_env, Kept, StandsAt, IsCached}
+use Rattle.rv_emulator.specs.declared.decoded.Decoded.{Decoded}
+use Rattle.rv_emulator.specs.Packed.{IsWordAt}
+use Rattle.rv_emulator.specs.States.{world_with, no_env, Kept, StandsAt, StaysAt, IsCached}
 
 -- an address at which something may be done lies below 2^47
 pub flagged_low : (regions : List Region) (flag a : ℕ) → AreLow regions → 0 < flag
@@ -37,17 +38,20 @@ four_bytes m m' a same =
     rw (b0, b1, b2, b3) refl
 
 -- where the bytes that may not be written are as they were, what stands stays
-pub stands_kept : (regions : List Region) (old new : List ℕ) (pc : ℕ) (instr : Instr) → Kept regions old new
-    → StandsAt regions old pc instr → StandsAt regions new pc instr
-stands_kept regions old new pc instr kept one =
+pub stays_kept : (regions : List Region) (old new : List ℕ) (pc : ℕ) (word : Decoded) → Kept regions old new
+    → StaysAt regions old pc word → StaysAt regions new pc word
+stays_kept regions old new pc word kept one =
     let same : load 4 (memory_of regions new) pc ≡ load 4 (memory_of regions old) pc =
     four_bytes (memory_of regions old) (memory_of regions new) pc (λ i within. kept (pc + i) (one.fixed i within))
     in
     record {
-      stands = by_load (nat_eq (pc % 4) 0 && all_allowed (world_with regions no_env) Executing 4 pc) same ∙ one.stands;
-      valid = one.valid;
+      here =
+          record {
+            stands = by_load (nat_eq (pc % 4) 0 && all_allowed (world_with regions no_env) Executing 4 pc) same ∙ one.here.stands;
+            ready = one.here.ready;
+            low = one.here.low;
+          };
       fixed = one.fixed;
-      low = one.low;
     }
   where
     by_load : (placed : Bool) → load 4 (memory_of regions new) pc ≡ load 4 (memory_of regions old) pc
@@ -55,17 +59,19 @@ stands_kept regions old new pc instr kept one =
     by_load true same = ap (λ n. found (instruction_of n)) same
     by_load false same = refl
 
-pub cached_kept : (regions : List Region) (old new : List ℕ) (base : ℕ) (words : List (Option Instr)) → Kept regions old new
+pub cached_kept : (regions : List Region) (old new : List ℕ) (base : ℕ) (words : List Decoded) → Kept regions old new
     → IsCached regions old base words → IsCached regions new base words
 cached_kept regions old new base words kept cached =
-    λ k instr is. stands_kept regions old new (base + 4 * k) instr kept (cached k instr is)
+    λ k word within is. stays_kept regions old new (base + 4 * k) word kept (cached k word within is)
 
-pub cached_at : (regions : List Region) (bytes : List ℕ) (base : ℕ) (words : List (Option Instr)) (pc : ℕ) (instr : Instr)
-    → IsCached regions bytes base words → base ≤ pc → (pc - base) % 4 ≡ 0
-    → slice_index_or words ((pc - base) / 4) None ≡ Some instr → StandsAt regions bytes pc instr
-cached_at regions bytes base words pc instr cached from even is =
-    let e : base + 4 * ((pc - base) / 4) ≡ pc = omega arith in
-    subst (λ p. StandsAt regions bytes p instr) e (cached ((pc - base) / 4) instr is)
+pub word_stands : (regions : List Region) (bytes : List ℕ) (base : ℕ) (words : List Decoded) (pc : ℕ) (word : Decoded)
+    → IsCached regions bytes base words → base < 2 ^ 64 → pc < 2 ^ 64 → IsWordAt base words pc word → StandsAt regions bytes pc word
+word_stands regions bytes base words pc word cached small_base small_pc one =
+    let here = (cached one.at word one.within one.is).here in
+    let low : base + 4 * one.at < 2 ^ 47 = here.low in
+    let offset : (pc + (2 ^ 64 - base)) % 2 ^ 64 ≡ 4 * one.at = one.offset in
+    let e : base + 4 * one.at ≡ pc = omega arith in
+    subst (λ p. StandsAt regions bytes p word) e here
 
 data Order (m n : ℕ) : Type 0 where
   less : (low : m < n) → Order m n
@@ -80,23 +86,21 @@ order m n = go (nat_lt m n) refl (nat_lt n m) refl
     go false p true q = more (grind arith)
     go false p false q = same (grind arith)
 
-none_beyond : {A : Type 0} (xs : List (Option A)) (k : ℕ) → length xs ≤ k → slice_index_or xs k None ≡ None
-none_beyond [] k low = refl
-none_beyond (x ∷ xs) zero low = absurd (omega arith)
-none_beyond (x ∷ xs) (suc k) low = none_beyond xs k (omega arith)
-
--- one more instruction is read
-pub cached_more : (regions : List Region) (bytes : List ℕ) (base : ℕ) (words : List (Option Instr)) (last : Option Instr)
-    → IsCached regions bytes base words
-    → ((instr : Instr) → last ≡ Some instr → StandsAt regions bytes (base + 4 * length words) instr)
+-- one more word is read
+pub cached_more : (regions : List Region) (bytes : List ℕ) (base : ℕ) (words : List Decoded) (last : Decoded)
+    → IsCached regions bytes base words → StaysAt regions bytes (base + 4 * length words) last
     → IsCached regions bytes base (words ++ last ∷ [])
-cached_more regions bytes base words last cached one k instr is = go (order k (length words))
+cached_more regions bytes base words last cached one k word within is = go (order k (length words))
   where
-    go : Order k (length words) → StandsAt regions bytes (base + 4 * k) instr
-    go (less low) = cached k instr (sym (get_or-append words (last ∷ []) None k low) ∙ is)
+    go : Order k (length words) → StaysAt regions bytes (base + 4 * k) word
+    go (less low) = cached k word low (sym (get_or-append words (last ∷ []) word k low) ∙ is)
     go (same e) =
-        subst (λ n. StandsAt regions bytes (base + 4 * n) instr) (sym e)
-        (one instr (sym (get_or-append_seam words last [] None) ∙ subst (λ n. slice_index_or (words ++ last ∷ []) n None ≡ Some instr) e is))
+        let there : last ≡ word =
+        sym (get_or-append_seam words last [] word)
+        ∙ subst (λ n. slice_index_or (words ++ last ∷ []) n word ≡ word) e is
+        in
+        subst (λ w. StaysAt regions bytes (base + 4 * k) w) there
+        (subst (λ n. StaysAt regions bytes (base + 4 * n) last) (sym e) one)
     go (more high) =
-        let past : length (words ++ last ∷ []) ≤ k = rw (length-append words (last ∷ [])) (omega arith) in
-        let none = none_beyond (words ++ last ∷ []) k past in cc
+        let size : length (words ++ last ∷ []) ≡ length words + 1 = length-append words (last ∷ []) in
+        absurd (omega arith)

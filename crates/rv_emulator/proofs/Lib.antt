@@ -1,3 +1,4 @@
+mod Backwards
 mod Digits
 mod Fetching
 mod Loads

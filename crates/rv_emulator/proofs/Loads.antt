@@ -9,7 +9,7 @@ use Rattle.rv_form.specs.declared.image.Segment.{Segment}
 use Rattle.rv_form.specs.Image.{Access, flag_of, lies_in, flags_at, byte_at, allows}
 use Rattle.rv_emulator.specs.declared.region.Region.{Region}
 use Rattle.rv_emulator.specs.Memory.{place_from, flags_in, byte_in, memory_of, allowed, total_of, AreLow, Laid}
-use Rattle.rv_emulator.specs.Loading.{AreFit, bytes_in, region_of}
+use Rattle.rv_emulator.specs.Loading.{AreFit, LaysOut, bytes_in, region_of}
 use Rattle.scheme_base.specs.declared.env.Env.{Env}
 use Rattle.scheme_base.specs.Outside.{Calls, no_calls}
 use Rattle.rv_form.specs.declared.image.Image.{Image}
@@ -113,14 +113,20 @@ same_flags (segment ∷ rest) a = ap (λ n. if lies_in segment a then segment.fl
 pub same_uses : (segments : List Segment) → allowed (map region_of segments) ≡ allows segments
 same_uses segments = fun_ext (λ access. fun_ext (λ a. ap (λ n. nat_eq (n / flag_of access % 2) 1) (same_flags segments a)))
 
-pub starts_as : (image : Image) (regions : List Region) (bytes : List ℕ) (registers : Registers) → AreFit image.segments
-    → regions ≡ map region_of image.segments → bytes ≡ flat_map bytes_in image.segments → regs_of registers ≡ (λ r. 0)
+pub laid_out : (segments : List Segment) (regions : List Region) (bytes : List ℕ) → LaysOut segments regions bytes → Laid regions bytes
+laid_out segments regions bytes out = rw (out.of_regions, out.of_bytes) (are_laid out.order out.fit)
+
+pub starts_as : (image : Image) (regions : List Region) (bytes : List ℕ) (registers : Registers) → LaysOut image.segments regions bytes
+    → regs_of registers ≡ (λ r. 0)
     → StartsAs image (record { regions = regions; bytes = bytes; registers = registers.words; pc = image.entry; end = None })
-starts_as image regions bytes registers fit same_regions same_bytes zeros =
-    let uses : allowed regions ≡ allows image.segments = ap allowed same_regions ∙ same_uses image.segments in
+starts_as image regions bytes registers out zeros =
+    let same : allows out.order ≡ allows image.segments =
+    fun_ext (λ access. fun_ext (λ a. ap (λ n. nat_eq (n / flag_of access % 2) 1) (out.same_flags a)))
+    in
+    let uses : allowed regions ≡ allows image.segments = ap allowed out.of_regions ∙ (same_uses out.order ∙ same) in
     let memory : memory_of regions bytes ≡ byte_at image.segments =
-    ap (λ r. memory_of r bytes) same_regions
-    ∙ (ap (memory_of (map region_of image.segments)) same_bytes ∙ same_memory image.segments fit)
+    ap (λ r. memory_of r bytes) out.of_regions
+    ∙ (ap (memory_of (map region_of out.order)) out.of_bytes ∙ (same_memory out.order out.fit ∙ out.same_bytes))
     in
     record {
       uses = λ env. ap (λ u. as_world u env) uses;

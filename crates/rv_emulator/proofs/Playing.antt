@@ -1,5 +1,5 @@
 -- Runs with a console, one after another.
-use Rattle.std.proofs.Common.{◌≡◌, ℕ, zero, suc, ◌+◌, ◌-◌, ◌<◌, List, [], ◌∷◌, ◌++◌, refl, sym, ap, ◌∙◌, subst, arith}
+use Rattle.std.proofs.Common.{◌≡◌, ℕ, zero, suc, ◌+◌, ◌-◌, ◌<◌, ◌≤◌, List, [], ◌∷◌, ◌++◌, refl, sym, ap, ◌∙◌, subst, arith}
 use Rattle.scheme_base.specs.declared.env.Env.{Env}
 use Rattle.scheme_base.specs.Outside.{Calls}
 use Rattle.scheme_base.specs.Runs.{after}
@@ -83,6 +83,28 @@ pub ended_stays : (w : World) (n : ℕ) (end : End) (calls : Calls) → after (m
 ended_stays w zero end calls = refl
 ended_stays w (suc n) (ends.Exited status) calls = ended_stays w n (ends.Exited status) calls
 ended_stays w (suc n) (ends.Trapped kind pc) calls = ended_stays w n (ends.Trapped kind pc) calls
+
+-- so many steps, and then those that are left but for fewer
+pub after_split : (w : World) (count left next : ℕ) (run : Run) → next ≤ left → left ≤ count
+    → after (machine_in w) (count - next) run ≡ after (machine_in w) (left - next) (after (machine_in w) (count - left) run)
+after_split w count left next run fewer most =
+    let e : count - next ≡ count - left + (left - next) = omega arith in
+    ap (λ k. after (machine_in w) k run) e ∙ after-add (machine_in w) (count - left) (left - next) run
+
+pub after_whole : (w : World) (count left : ℕ) (run : Run) → left ≤ count
+    → after (machine_in w) count run ≡ after (machine_in w) left (after (machine_in w) (count - left) run)
+after_whole w count left run most =
+    let e : count ≡ count - left + left = omega arith in
+    ap (λ k. after (machine_in w) k run) e ∙ after-add (machine_in w) (count - left) left run
+
+-- a run whose next step ends it
+pub ends_in : (w : World) (n : ℕ) (run : Run) (end : End) (calls : Calls) → 0 < n → step w run ≡ ended_as end calls
+    → after (machine_in w) n run ≡ ended_as end calls
+ends_in w n run end calls some is =
+    let e : n ≡ 1 + (n - 1) = omega arith in
+    ap (λ k. after (machine_in w) k run) e
+    ∙ (after-add (machine_in w) 1 (n - 1) run
+    ∙ (ap (after (machine_in w) (n - 1)) is ∙ ended_stays w (n - 1) end calls))
 
 pub after_rest : (w : World) (n count : ℕ) (run : Run) → n < count
     → after (machine_in w) count run ≡ after (machine_in w) (count - (n + 1)) (step w (after (machine_in w) n run))

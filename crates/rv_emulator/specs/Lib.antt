@@ -1,4 +1,5 @@
 pub mod Memory
+pub mod Packed
 pub mod States
 pub mod Plays
 pub mod Loading

@@ -1,6 +1,8 @@
 -- How an image is loaded.
-use Rattle.std.specs.Prelude.{ℕ, ◌+◌, ◌-◌, ◌^◌, ◌≤◌, List, [], ◌∷◌, ◌++◌, length, replicate}
+use Rattle.std.specs.Prelude.{Bool, true, false, reverse, map, ◌≡◌, ℕ, ◌+◌, ◌-◌, ◌^◌, ◌≤◌, List, [], ◌∷◌, ◌++◌, length, replicate}
+use Rattle.std.specs.List.{flat_map}
 use Rattle.rv_form.specs.declared.image.Segment.{Segment}
+use Rattle.rv_form.specs.Image.{byte_at, flags_at}
 use Rattle.rv_emulator.specs.declared.region.Region.{Region}
 
 abbrev pub region_of : Segment → Region
@@ -24,3 +26,21 @@ AreFit (segment ∷ rest) = (length segment.bytes ≤ segment.memsz) × (segment
 pub record IsLoadable (segments : List Segment) : Type 0 where
   pub fit : AreFit segments
   pub room : room_of segments ≤ 2 ^ 31
+
+-- each segment begins where the ones before it have ended, or above
+abbrev pub Rise : (from : ℕ) → List Segment → Type 0
+Rise from [] = Unit {0}
+Rise from (segment ∷ rest) = (from ≤ segment.vaddr) × Rise (segment.vaddr + segment.memsz) rest
+
+abbrev pub ordered : (backwards : Bool) → List Segment → List Segment
+ordered true segments = reverse segments
+ordered false segments = segments
+
+-- regions and bytes are those of segments, in an order in which they are the same memory
+pub record LaysOut (segments : List Segment) (regions : List Region) (bytes : List ℕ) : Type 0 where
+  pub order : List Segment
+  pub fit : AreFit order
+  pub of_regions : regions ≡ map region_of order
+  pub of_bytes : bytes ≡ flat_map bytes_in order
+  pub same_bytes : byte_at order ≡ byte_at segments
+  pub same_flags : (a : ℕ) → flags_at order a ≡ flags_at segments a

@@ -1,21 +1,20 @@
 -- The machine's states as the emulator keeps them.
-use Rattle.std.specs.Prelude.{ℕ, pos, negsuc, ◌+◌, List, [], Option, Some, None, Result, Ok, Err, Bool, true, false, if◌then◌else◌, nat_eq, slice_index, slice_index_or, ◌≡◌, ◌<◌, ◌*◌, ◌^◌}
+use Rattle.std.specs.Prelude.{ℕ, pos, negsuc, ◌+◌, List, [], length, Option, Some, None, Result, Ok, Err, Bool, true, false, if◌then◌else◌, nat_eq, slice_index, slice_index_or, ◌≡◌, ◌<◌, ◌*◌, ◌^◌}
 use Rattle.scheme_base.specs.declared.env.Env.{Env}
 use Rattle.scheme_base.specs.Outside.{Calls}
-use Rattle.rv_form.specs.declared.instr.Instr.{Instr}
-use Rattle.rv_form.specs.Machine.{World, State, Run, Running, Ended, Trapped, Fetched, Found, NoWord, NoPlace, with_reg, Ask, Answers, Reads, Writes, Sends, Leaves, Unknown, store, asked, system}
+use Rattle.rv_form.specs.Machine.{World, State, Run, Running, Ended, Trapped, with_reg, Ask, Answers, Reads, Writes, Sends, Leaves, Unknown, store, asked, system}
 use Rattle.rv_emulator.specs.declared.region.Region.{Region}
 use Rattle.rv_emulator.specs.declared.registers.Registers.{Registers}
 use Rattle.rv_emulator.specs.declared.next.Next.{Next}
 use Rattle.rv_emulator.specs.declared.next.Next.TheVariants as next
 use Rattle.rv_emulator.specs.declared.next.End.{End}
 use Rattle.rv_emulator.specs.declared.next.End.TheVariants as ends
+use Rattle.rv_emulator.specs.declared.next.Went.{Went}
 use Rattle.rv_emulator.specs.declared.system.Ask.{Ask as Wish}
 use Rattle.rv_emulator.specs.declared.system.Ask.TheVariants as wishes
-use Rattle.rv_emulator.specs.declared.memory.Fetched.{Fetched as Seen}
-use Rattle.rv_emulator.specs.declared.memory.Fetched.TheVariants as seen
+use Rattle.rv_emulator.specs.declared.decoded.Decoded.{Decoded}
 use Rattle.rv_emulator.specs.Memory.{allowed, memory_of}
-use Rattle.rv_form.specs.Instruction.{IsValid}
+use Rattle.rv_emulator.specs.Packed.{IsReady, fetched_of}
 use Rattle.rv_form.specs.Image.{Writing}
 use Rattle.rv_form.specs.Machine.{fetch}
 
@@ -37,11 +36,6 @@ done w pc next.Call s = system w (asked w (record s { pc = pc })) (record s { pc
 
 abbrev pub no_env : Env
 no_env = record { input = []; failing = []; err_failing = [] }
-
-abbrev pub fetched_as : Seen → Fetched
-fetched_as (seen.Found instr) = Found instr
-fetched_as seen.NoWord = NoWord
-fetched_as seen.NoPlace = NoPlace
 
 -- a register's value by number, of which register 0 has 0
 abbrev pub reads : Registers → ℕ → ℕ
@@ -87,17 +81,30 @@ turned (Err end) registers regions bytes calls = ended_as end calls
 abbrev pub Kept : List Region → (old new : List ℕ) → Type 0
 Kept regions old new = (a : ℕ) → allowed regions Writing a ≡ false → memory_of regions new a ≡ memory_of regions old a
 
--- an instruction that stands at a place, and is never written over
-pub record StandsAt (regions : List Region) (bytes : List ℕ) (pc : ℕ) (instr : Instr) : Type 0 where
-  pub stands : fetch (world_with regions no_env) (memory_of regions bytes) pc ≡ Found instr
-  pub valid : IsValid instr
-  pub fixed : (i : ℕ) → i < 4 → allowed regions Writing (pc + i) ≡ false
+-- a word of code that stands at a place
+pub record StandsAt (regions : List Region) (bytes : List ℕ) (pc : ℕ) (word : Decoded) : Type 0 where
+  pub stands : fetch (world_with regions no_env) (memory_of regions bytes) pc ≡ fetched_of word
+  pub ready : IsReady word
   pub low : pc < 2 ^ 47
 
--- instructions that were read once, from `base` on, stand there
-abbrev pub IsCached : List Region → (bytes : List ℕ) → (base : ℕ) → List (Option Instr) → Type 0
+-- and is never written over
+pub record StaysAt (regions : List Region) (bytes : List ℕ) (pc : ℕ) (word : Decoded) : Type 0 where
+  pub here : StandsAt regions bytes pc word
+  pub fixed : (i : ℕ) → i < 4 → allowed regions Writing (pc + i) ≡ false
+
+-- words that were read once, from `base` on, stay there
+abbrev pub IsCached : List Region → (bytes : List ℕ) → (base : ℕ) → List Decoded → Type 0
 IsCached regions bytes base words =
-    (k : ℕ) (instr : Instr) → slice_index_or words k None ≡ Some instr → StandsAt regions bytes (base + 4 * k) instr
+    (k : ℕ) (word : Decoded) → k < length words → slice_index_or words k word ≡ word → StaysAt regions bytes (base + 4 * k) word
+
+-- how many steps are left of a run that has come so far, and where it is
+abbrev pub left_in : Result Went End → ℕ
+left_in (Ok went) = went.left
+left_in (Err end) = 0
+
+abbrev pub place_in : Result Went End → Result ℕ End
+place_in (Ok went) = Ok went.pc
+place_in (Err end) = Err end
 
 -- the kind of a trap that a run has come to
 abbrev pub trap_of : Run → Option ℕ

@@ -1,6 +1,7 @@
 //! The emulator: `load` makes a machine of an image, and `Machine::run` does the machine's steps.
 #![tactic(auto)]
 
+mod decoded;
 mod exec;
 mod loading;
 mod machine;

@@ -1,14 +1,14 @@
 //! How a machine is made of an image.
-ghost use Rattle.std.specs.Prelude.{◌≡◌, ◌∷◌, [], ◌++◌, ◌+◌, ◌*◌, ◌<◌, ◌≤◌, ◌^◌, ℕ, IfOk, OnOk, OnErr, map, true, false, length, Some};
+ghost use Rattle.std.specs.Prelude.{◌≡◌, ◌∷◌, [], ◌++◌, ◌+◌, ◌*◌, ◌<◌, ◌≤◌, ◌^◌, ℕ, IfOk, IfSome, None, OnOk, map, true, false, length, Some};
 ghost use Rattle.std.specs.List.{flat_map};
-ghost use Rattle.rv_form.specs.declared.instr.Instr.{Instr as Instruction};
 ghost use Rattle.rv_emulator.specs.Memory.{Laid, flags_in, has_flag};
-ghost use Rattle.rv_emulator.specs.Loading.{IsLoadable, bytes_in, region_of};
-ghost use Rattle.rv_emulator.specs.States.{IsCached, StandsAt};
+ghost use Rattle.rv_emulator.specs.Loading.{AreFit, IsLoadable, LaysOut, Rise, bytes_in, ordered, region_of};
+ghost use Rattle.rv_emulator.specs.States.{IsCached, StaysAt};
 
-use crate::memory::{Fetched, fetch, may};
+use crate::decoded::Decoded;
+use crate::memory::{fetch, may};
 use crate::region::{Region, WRITES};
-use rv_form::{Instr, Segment};
+use rv_form::Segment;
 use std::alloc::{AllocError, Global};
 
 /// So many words of code at most are read once; further ones are read each time.
@@ -21,23 +21,32 @@ pub struct Memory {
     pub bytes: Vec<u8>,
 }
 
-/// Instructions that are read once, since nothing can write over them, from `base` on.
+/// Words of code that are read once, since nothing can write over them, from `base` on.
 #[derive(Drop)]
 pub struct Code {
     pub base: u64,
-    pub words: Vec<Option<Instr>>,
+    pub words: Vec<Decoded>,
 }
 
-/// The memory that segments load.
+/// The memory that segments load. Where they rise, the last one's comes first: memory is looked through in this
+/// order, and data and heap stand last.
 pub fn lay(alloc: Global, segments: &[Segment]) -> Result<Memory, AllocError>
     requires { IsLoadable segments.now }
-    ensures regions { IfOk result (λ memory. memory.regions.items ≡ map region_of segments.now) }
-    ensures bytes { IfOk result (λ memory. memory.bytes.items ≡ flat_map bytes_in segments.now) }
+    ensures { IfOk result (λ memory. LaysOut segments.now memory.regions.items memory.bytes.items) }
+{
+    lay_in_order(alloc, segments, rise(segments))
+}
+
+/// The memory that segments load, from the first or from the last one on.
+fn lay_in_order(alloc: Global, segments: &[Segment], backwards: bool) -> Result<Memory, AllocError>
+    requires { IsLoadable (ordered backwards segments.now) }
+    ensures regions { IfOk result (λ memory. memory.regions.items ≡ map region_of (ordered backwards segments.now)) }
+    ensures bytes { IfOk result (λ memory. memory.bytes.items ≡ flat_map bytes_in (ordered backwards segments.now)) }
 {
     let mut regions = Vec::new(alloc);
     let mut bytes = Vec::new(alloc);
     let mut rest = segments;
-    while let Some((segment, others)) = rest.split_first() {
+    while let Some((segment, others)) = next(rest, backwards) {
         regions.push(Region {
             start: segment.vaddr,
             size: segment.memsz,
@@ -47,6 +56,35 @@ pub fn lay(alloc: Global, segments: &[Segment]) -> Result<Memory, AllocError>
         rest = others;
     }
     Ok(Memory { regions, bytes })
+}
+
+/// The first or the last segment, and the others.
+fn next(rest: &[Segment], backwards: bool) -> Option<(&Segment, &[Segment])>
+    ensures some { IfSome result (λ pair. (ordered backwards rest.now ≡ pair.0.now ∷ ordered backwards pair.1.now) × (length pair.1.now < length rest.now)) }
+    ensures none { result ≡ None → ordered backwards rest.now ≡ [] }
+{
+    if backwards {
+        rest.split_last()
+    } else {
+        rest.split_first()
+    }
+}
+
+/// Whether each segment begins where the ones before it have ended, or above.
+fn rise(segments: &[Segment]) -> bool
+    requires { AreFit segments.now }
+    ensures { result ≡ true → Rise 0 segments.now }
+{
+    let mut rest = segments;
+    let mut end: u64 = 0;
+    while let Some((segment, others)) = rest.split_first() {
+        if segment.vaddr < end {
+            return false;
+        }
+        end = segment.vaddr + segment.memsz;
+        rest = others;
+    }
+    true
 }
 
 /// Puts the bytes of a segment at the end, and then zeros.
@@ -62,7 +100,8 @@ fn push_bytes(bytes: &mut Vec<u8>, segment: &Segment) -> Result<(), AllocError>
     Ok(())
 }
 
-/// Reads the code of the region that has the entry, as far as it is to be read once.
+/// Reads the code of the region that has the entry, up to the first place where none can be or that may be
+/// written.
 pub fn read_code(
     alloc: Global,
     regions: &[Region],
@@ -75,7 +114,10 @@ pub fn read_code(
     let (base, count) = code_place(regions, entry);
     let mut words = Vec::new(alloc);
     for at in 0..count {
-        words.push(lasting(regions, bytes, base + 4 * at))?;
+        match lasting(regions, bytes, base + 4 * at) {
+            Some(word) => words.push(word)?,
+            None => return Ok(Code { base, words }),
+        }
     }
     Ok(Code { base, words })
 }
@@ -95,21 +137,20 @@ fn code_place(regions: &[Region], entry: u64) -> (u64, u64)
     (0, 0)
 }
 
-/// The instruction at a place, where it stays there.
-fn lasting(regions: &[Region], bytes: &[u8], pc: u64) -> Option<Instr>
+/// The word of code at a place, where it stays there.
+fn lasting(regions: &[Region], bytes: &[u8], pc: u64) -> Option<Decoded>
     requires { Laid regions.now bytes.now }
-    ensures { (instr : Instruction) → result ≡ Some instr → StandsAt regions.now bytes.now pc instr }
+    ensures { (word : Decoded) → result ≡ Some word → StaysAt regions.now bytes.now pc word }
 {
     match fetch(regions, bytes, pc) {
-        Fetched::Found(instr) => {
+        Some(word) => {
             if is_fixed(regions, bytes, pc) {
-                Some(instr)
+                Some(word)
             } else {
                 None
             }
         }
-        Fetched::NoWord => None,
-        Fetched::NoPlace => None,
+        None => None,
     }
 }
 

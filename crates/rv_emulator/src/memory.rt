@@ -1,50 +1,49 @@
 //! Loads, stores and the fetching of instructions.
-ghost use Rattle.std.specs.Prelude.{◌≡◌, ◌+◌, ◌<◌, ◌≤◌, ◌^◌, ℕ, IfSome, length, slice_index, false, true};
+ghost use Rattle.std.specs.Prelude.{◌≡◌, ◌+◌, ◌<◌, ◌≤◌, ◌^◌, ℕ, IfSome, length, slice_index, false, true, Some};
 ghost use Rattle.std.specs.Bool.{OnTrue};
-ghost use Rattle.rv_form.specs.declared.instr.Instr.{Instr as Instruction};
-ghost use Rattle.rv_form.specs.Instruction.{IsValid};
-ghost use Rattle.rv_form.specs.Machine.{fetch as fetched_in, load as load_in, store as store_in};
+ghost use Rattle.rv_form.specs.Instruction.{instruction_of};
+ghost use Rattle.rv_form.specs.Machine.{fetch as fetched_in, found, load as load_in, store as store_in};
 ghost use Rattle.rv_emulator.specs.Memory.{AreLow, Laid, all_flagged, bytes_of, loaded_by, memory_of, total_of};
-ghost use Rattle.rv_emulator.specs.States.{Kept, fetched_as, no_env, world_with};
+ghost use Rattle.rv_emulator.specs.Packed.{IsReady, fetched_of, seen_as};
+ghost use Rattle.rv_emulator.specs.States.{Kept, no_env, world_with};
 
+use crate::decoded::{Decoded, Op, pack, word_of};
 use crate::region::{EXECUTES, Place, Region, WRITES, Width, find, is_set};
 use rv_encode::{decode, decoded_is_encoded};
-use rv_form::Instr;
 
-/// What stands at a place of an instruction.
-#[derive(Clone, Copy, Debug, PartialEq, Eq)]
-pub enum Fetched {
-    Found(Instr),
-    /// No instruction has this word.
-    NoWord,
-    /// The place is no multiple of 4, or its bytes may not be executed.
-    NoPlace,
-}
-
-/// The instruction at a place.
+/// The word of code at a place. `None` says that none can be there: the place is no multiple of 4, or its bytes
+/// may not be executed.
 #[inline(never)]
-pub fn fetch(regions: &[Region], bytes: &[u8], pc: u64) -> Fetched
+pub fn fetch(regions: &[Region], bytes: &[u8], pc: u64) -> Option<Decoded>
     requires { Laid regions.now bytes.now }
-    ensures value { fetched_in (world_with regions.now no_env) (memory_of regions.now bytes.now) pc ≡ fetched_as result }
-    ensures valid { (instr : Instruction) → result ≡ Fetched.Found instr → IsValid instr × (pc < 2 ^ 47) }
+    ensures value { fetched_in (world_with regions.now no_env) (memory_of regions.now bytes.now) pc ≡ seen_as result }
+    ensures ready { (word : Decoded) → result ≡ Some word → IsReady word × (pc < 2 ^ 47) }
 {
     if pc % 4 != 0 {
-        return Fetched::NoPlace;
+        return None;
     }
     match load(regions, bytes, EXECUTES, Width::Word, pc) {
-        None => Fetched::NoPlace,
-        Some(word) => match decode(word as u32) {
-            None => Fetched::NoWord,
-            Some(instr) => {
-                decoded_is_encoded(word as u32, instr);
-                Fetched::Found(instr)
-            }
-        },
+        None => None,
+        Some(number) => Some(decoded(number as u32)),
+    }
+}
+
+/// A word of code, decoded.
+fn decoded(number: u32) -> Decoded
+    ensures fetched { fetched_of result ≡ found (instruction_of number) }
+    ensures ready { IsReady result }
+{
+    match decode(number) {
+        None => pack(Op::NoWord, 0, 0, 0, 0),
+        Some(instr) => {
+            decoded_is_encoded(number, instr);
+            word_of(instr)
+        }
     }
 }
 
 /// The number that the bytes at an address hold, where each has the flag.
-#[inline]
+#[inline(always)]
 pub fn load(regions: &[Region], bytes: &[u8], flag: u32, width: Width, a: u64) -> Option<u64>
     requires laid { Laid regions.now bytes.now }
     requires flag { 0 < flag }
@@ -88,7 +87,7 @@ fn load_apart(regions: &[Region], bytes: &[u8], flag: u32, count: u64, a: u64) -
 }
 
 /// The number that the bytes from a place on hold.
-#[inline]
+#[inline(always)]
 fn word_at(bytes: &[u8], at: usize, width: Width) -> u64
     requires { at + bytes_of width ≤ length bytes.now }
     ensures value { result ≡ load_in (bytes_of width) (λ k. slice_index bytes.now k) at }
@@ -137,7 +136,7 @@ pub fn may(regions: &[Region], flag: u32, count: u64, a: u64) -> bool
 
 /// Stores the lowest bytes of a number at an address, and tells whether each may be written; where one may
 /// not, none is.
-#[inline]
+#[inline(always)]
 pub fn store(regions: &[Region], bytes: &mut [u8], width: Width, a: u64, value: u64) -> bool
     requires { Laid regions.now bytes.old }
     ensures answer { result ≡ all_flagged regions.now 2 (bytes_of width) a }
@@ -183,7 +182,7 @@ fn store_apart(regions: &[Region], bytes: &mut [u8], count: u64, a: u64, value: 
 }
 
 /// Puts the lowest bytes of a number at a place, the lowest first.
-#[inline]
+#[inline(always)]
 fn put_at(bytes: &mut [u8], at: usize, count: usize, value: u64)
     requires { at + count ≤ length bytes.old }
     ensures written { (k : ℕ) → slice_index bytes.new k ≡ store_in count (λ k. slice_index bytes.old k) at value k }

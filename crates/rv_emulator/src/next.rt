@@ -13,6 +13,13 @@ pub enum Next {
     Call,
 }
 
+/// How far a run has come: the place of its next instruction, and how many steps are left.
+#[derive(Clone, Copy)]
+pub struct Went {
+    pub pc: u64,
+    pub left: u64,
+}
+
 /// How a machine has stopped.
 #[derive(Clone, Copy, Debug, PartialEq, Eq)]
 pub enum End {

@@ -6,7 +6,7 @@ ghost use Rattle.rv_form.specs.Arithmetic.{integer, high_product};
 ghost use Rattle.rv_form.specs.Arithmetic as arithmetic;
 
 /// The word of a signed number.
-#[inline]
+#[inline(always)]
 pub fn word(imm: i32) -> u64
     ensures { result ≡ word_of imm }
 {
@@ -14,28 +14,28 @@ pub fn word(imm: i32) -> u64
 }
 
 /// The word of 4,096 times a number.
-#[inline]
+#[inline(always)]
 pub fn upper(imm: i32) -> u64
     ensures { result ≡ word_of (pos 4096 *ℤ imm) }
 {
     (4096 * i64::from(imm)).cast_unsigned()
 }
 
-#[inline]
+#[inline(always)]
 pub fn add(a: u64, b: u64) -> u64
     ensures { result ≡ sum_of a b }
 {
     a.wrapping_add(b)
 }
 
-#[inline]
+#[inline(always)]
 pub fn sub(a: u64, b: u64) -> u64
     ensures { result ≡ arithmetic.sub a b }
 {
     a.wrapping_sub(b)
 }
 
-#[inline]
+#[inline(always)]
 pub fn mul(a: u64, b: u64) -> u64
     ensures { result ≡ arithmetic.mul a b }
 {
@@ -43,7 +43,7 @@ pub fn mul(a: u64, b: u64) -> u64
 }
 
 /// The even number at or below one.
-#[inline]
+#[inline(always)]
 pub fn even(a: u64) -> u64
     ensures { result ≡ even_of a }
 {
@@ -51,7 +51,7 @@ pub fn even(a: u64) -> u64
 }
 
 /// A number below `2 * half`, with its sign extended to a word.
-#[inline]
+#[inline(always)]
 pub fn extended(half: u64, n: u64) -> u64
     requires half { half ≤ 2 ^ 63 }
     requires number { n < 2 * half }
@@ -64,7 +64,7 @@ pub fn extended(half: u64, n: u64) -> u64
     }
 }
 
-#[inline]
+#[inline(always)]
 pub fn low_half(a: u64) -> u64
     ensures { result ≡ arithmetic.low_half a }
 {
@@ -72,14 +72,14 @@ pub fn low_half(a: u64) -> u64
 }
 
 /// The low 32 bits, with their sign extended to a word.
-#[inline]
+#[inline(always)]
 pub fn narrow(a: u64) -> u64
     ensures { result ≡ arithmetic.narrow a }
 {
     i64::from((low_half(a) as u32).cast_signed()).cast_unsigned()
 }
 
-#[inline]
+#[inline(always)]
 pub fn flag(answer: bool) -> u64
     ensures { result ≡ arithmetic.flag answer }
 {
@@ -87,49 +87,49 @@ pub fn flag(answer: bool) -> u64
 }
 
 /// Whether the first is less, of words as signed numbers.
-#[inline]
+#[inline(always)]
 pub fn less(a: u64, b: u64) -> bool
     ensures { result ≡ arithmetic.less a b }
 {
     a.cast_signed() < b.cast_signed()
 }
 
-#[inline]
+#[inline(always)]
 pub fn shift_left(a: u64, amount: u64) -> u64
     ensures { result ≡ arithmetic.shift_left a amount }
 {
     a << (amount % 64)
 }
 
-#[inline]
+#[inline(always)]
 pub fn shift_right(a: u64, amount: u64) -> u64
     ensures { result ≡ arithmetic.shift_right a amount }
 {
     a >> (amount % 64)
 }
 
-#[inline]
+#[inline(always)]
 pub fn shift_signed(a: u64, amount: u64) -> u64
     ensures { result ≡ arithmetic.shift_signed a amount }
 {
     (a.cast_signed() >> (amount % 64)).cast_unsigned()
 }
 
-#[inline]
+#[inline(always)]
 pub fn sllw(a: u64, amount: u64) -> u64
     ensures { result ≡ arithmetic.shift_left_narrow a amount }
 {
     narrow(shift_left(a, amount % 32))
 }
 
-#[inline]
+#[inline(always)]
 pub fn srlw(a: u64, amount: u64) -> u64
     ensures { result ≡ arithmetic.shift_right_narrow a amount }
 {
     narrow(shift_right(low_half(a), amount % 32))
 }
 
-#[inline]
+#[inline(always)]
 pub fn sraw(a: u64, amount: u64) -> u64
     ensures { result ≡ arithmetic.shift_signed_narrow a amount }
 {
@@ -137,7 +137,7 @@ pub fn sraw(a: u64, amount: u64) -> u64
 }
 
 /// The high 64 bits of the product, with both operands signed.
-#[inline]
+#[inline(always)]
 pub fn high_signed(a: u64, b: u64) -> u64
     ensures { result ≡ high_product (integer a) (integer b) }
 {
@@ -145,7 +145,7 @@ pub fn high_signed(a: u64, b: u64) -> u64
 }
 
 /// The high 64 bits of the product, with the first operand signed.
-#[inline]
+#[inline(always)]
 pub fn high_mixed(a: u64, b: u64) -> u64
     ensures { result ≡ high_product (integer a) (pos b) }
 {
@@ -153,7 +153,7 @@ pub fn high_mixed(a: u64, b: u64) -> u64
 }
 
 /// The high 64 bits of the product of the words as they are.
-#[inline]
+#[inline(always)]
 pub fn high_unsigned(a: u64, b: u64) -> u64
     ensures { result ≡ high_product (pos a) (pos b) }
 {
@@ -161,14 +161,14 @@ pub fn high_unsigned(a: u64, b: u64) -> u64
 }
 
 /// The high half of a product, from bit 64 on.
-#[inline]
+#[inline(always)]
 fn high_half(product: i128) -> u64
     ensures { result ≡ word_of (floor product (2 ^ 64)) }
 {
     (product.cast_unsigned() / 0x1_0000_0000_0000_0000) as u64
 }
 
-#[inline]
+#[inline(always)]
 pub fn div(a: u64, b: u64) -> u64
     ensures { result ≡ arithmetic.divide a b }
 {
@@ -181,7 +181,7 @@ pub fn div(a: u64, b: u64) -> u64
     }
 }
 
-#[inline]
+#[inline(always)]
 pub fn rem(a: u64, b: u64) -> u64
     ensures { result ≡ arithmetic.remainder a b }
 {
@@ -194,14 +194,14 @@ pub fn rem(a: u64, b: u64) -> u64
     }
 }
 
-#[inline]
+#[inline(always)]
 pub fn divu(a: u64, b: u64) -> u64
     ensures { result ≡ arithmetic.divide_unsigned a b }
 {
     if b == 0 { u64::MAX } else { a / b }
 }
 
-#[inline]
+#[inline(always)]
 pub fn remu(a: u64, b: u64) -> u64
     ensures { result ≡ arithmetic.remainder_unsigned a b }
 {
@@ -209,28 +209,28 @@ pub fn remu(a: u64, b: u64) -> u64
 }
 
 /// The quotients and remainders of the low 32 bits.
-#[inline]
+#[inline(always)]
 pub fn divw(a: u64, b: u64) -> u64
     ensures { result ≡ arithmetic.narrow (arithmetic.divide (arithmetic.narrow a) (arithmetic.narrow b)) }
 {
     narrow(div(narrow(a), narrow(b)))
 }
 
-#[inline]
+#[inline(always)]
 pub fn divuw(a: u64, b: u64) -> u64
     ensures { result ≡ arithmetic.narrow (arithmetic.divide_unsigned (arithmetic.low_half a) (arithmetic.low_half b)) }
 {
     narrow(divu(low_half(a), low_half(b)))
 }
 
-#[inline]
+#[inline(always)]
 pub fn remw(a: u64, b: u64) -> u64
     ensures { result ≡ arithmetic.narrow (arithmetic.remainder (arithmetic.narrow a) (arithmetic.narrow b)) }
 {
     narrow(rem(narrow(a), narrow(b)))
 }
 
-#[inline]
+#[inline(always)]
 pub fn remuw(a: u64, b: u64) -> u64
     ensures { result ≡ arithmetic.narrow (arithmetic.remainder_unsigned (arithmetic.low_half a) (arithmetic.low_half b)) }
 {

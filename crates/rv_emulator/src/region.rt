@@ -27,7 +27,7 @@ pub enum Width {
 }
 
 impl Width {
-    #[inline]
+    #[inline(always)]
     pub fn count(self) -> u64
         ensures { result ≡ bytes_of self }
     {
@@ -40,7 +40,7 @@ impl Width {
     }
 
     /// From here on the numbers of this width are negative, as signed ones.
-    #[inline]
+    #[inline(always)]
     pub fn half(self) -> u64
         ensures { result ≡ half_of self }
     {
@@ -63,7 +63,7 @@ pub enum Place {
 }
 
 /// Whether a flag is set.
-#[inline]
+#[inline(always)]
 pub fn is_set(flags: u32, flag: u32) -> bool
     requires { 0 < flag }
     ensures { result ≡ has_flag flags flag }
@@ -72,7 +72,7 @@ pub fn is_set(flags: u32, flag: u32) -> bool
 }
 
 /// Where `count` bytes from `a` on stand.
-#[inline]
+#[inline(always)]
 pub fn find(regions: &[Region], a: u64, count: u64) -> Place
     requires low { AreLow regions.now }
     requires total { total_of regions.now < 2 ^ 63 }

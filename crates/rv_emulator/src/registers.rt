@@ -1,34 +1,37 @@
 //! The registers.
-ghost use Rattle.std.specs.Prelude.{◌≡◌, ◌<◌, slice_index, nat_eq, if◌then◌else◌};
-ghost use Rattle.rv_form.specs.Machine.{with_reg};
-ghost use Rattle.rv_emulator.specs.States.{regs_of};
+ghost use Rattle.std.specs.Prelude.{◌≡◌, slice_index};
 
-/// The 32 registers. Register 0 is read as 0, whatever was written to it.
+/// The slot that has 0: register 0 is read from it, whatever was written to its own.
+pub const ZERO: u8 = 32;
+
+/// The 32 registers, and the slot `ZERO`.
 #[derive(Clone, Copy, Debug, PartialEq, Eq)]
 pub struct Registers {
-    words: [u64; 32],
+    words: [u64; 33],
+    ghost zero: { slice_index words 32 ≡ 0 },
 }
 
 impl Registers {
+    ghost use Rattle.std.specs.Prelude.{◌<◌};
+    ghost use Rattle.rv_form.specs.Machine.{with_reg};
+    ghost use Rattle.rv_emulator.specs.Packed.{IsSource, number_of};
+    ghost use Rattle.rv_emulator.specs.States.{reads, regs_of};
+
     pub fn new() -> Registers
         ensures { regs_of result ≡ (λ r. 0) }
     {
-        Registers { words: [0; 32] }
+        Registers { words: [0; 33] }
     }
 
-    #[inline]
-    pub fn read(&self, r: u8) -> u64
-        requires { r < 32 }
-        ensures { result ≡ if nat_eq r 0 then 0 else regs_of self.now r }
+    #[inline(always)]
+    pub fn read(&self, slot: u8) -> u64
+        requires { IsSource slot }
+        ensures { result ≡ reads self.now (number_of slot) }
     {
-        if r == 0 {
-            0
-        } else {
-            self.words[usize::from(r)]
-        }
+        self.words[usize::from(slot)]
     }
 
-    #[inline]
+    #[inline(always)]
     pub fn put(&mut self, r: u8, value: u64)
         requires { r < 32 }
         ensures { regs_of self.new ≡ with_reg (regs_of self.old) r value }

@@ -2,23 +2,24 @@
 ghost use Rattle.std.specs.Prelude.{◌≡◌, ◌<◌, ◌^◌, ℕ, true, Some, None, if◌then◌else◌, length};
 ghost use Rattle.scheme_base.specs.declared.env.Env.{Env};
 ghost use Rattle.scheme_base.specs.Outside.{Calls};
-ghost use Rattle.rv_form.specs.Instruction.{IsValid};
 ghost use Rattle.rv_form.specs.Numbers.{add as sum_of, word as word_of};
-ghost use Rattle.rv_form.specs.Machine.{Running, act, machine_in, step as step_in};
+ghost use Rattle.rv_form.specs.Machine.{Running, act, act_at, machine_in, step as step_in};
 ghost use Rattle.rv_emulator.specs.Memory.{Laid, all_flagged, bytes_of};
 ghost use Rattle.scheme_base.specs.Runs.{after};
 ghost use Rattle.rv_emulator.specs.Held.{run_in, settled};
+ghost use Rattle.rv_emulator.specs.Packed.{IsReady, IsSource, fetched_of, number_of};
+ghost use Rattle.rv_form.specs.declared.instr.Instr.TheVariants as instr;
 ghost use Rattle.rv_emulator.specs.Plays.{Plays};
 ghost use Rattle.rv_emulator.specs.States.{IsCached, reads, state_of, trap_of, world_with};
 
-use crate::memory::{Fetched, may};
+use crate::decoded::{Decoded, Op};
+use crate::memory::{fetch, may};
 use crate::next::End;
 use crate::operation::{add, word};
 use crate::region::{READS, Region, WRITES, Width};
 use crate::registers::Registers;
-use crate::step::{do_steps, instruction_at};
+use crate::step::do_steps;
 use crate::system::{Ask, asked};
-use rv_form::Instr;
 use stalin_outside::Console;
 
 /// How far a machine has come: the place of its next instruction, and how it has stopped.
@@ -32,7 +33,7 @@ pub struct Gone {
 pub fn go_on<C: Console>(
     steps: u64,
     base: u64,
-    words: &[Option<Instr>],
+    words: &[Decoded],
     pc: u64,
     registers: &mut Registers,
     regions: &[Region],
@@ -53,7 +54,7 @@ pub fn go_on<C: Console>(
 {
     match do_steps(steps, base, words, pc, registers, regions, bytes, console) {
         Err(end) => Gone { pc, end: Some(end) },
-        Ok(to) => match trap_at(base, words, to, registers, regions, bytes) {
+        Ok(to) => match trap_at(to, registers, regions, bytes) {
             None => Gone { pc: to, end: None },
             Some(kind) => Gone {
                 pc: to,
@@ -64,57 +65,45 @@ pub fn go_on<C: Console>(
 }
 
 /// The kind of trap that stands at `pc`, if any.
-fn trap_at(
-    base: u64,
-    words: &[Option<Instr>],
-    pc: u64,
-    registers: &Registers,
-    regions: &[Region],
-    bytes: &[u8],
-) -> Option<u8>
-    requires laid { Laid regions.now bytes.now }
-    requires cached { IsCached regions.now bytes.now base words.now }
+fn trap_at(pc: u64, registers: &Registers, regions: &[Region], bytes: &[u8]) -> Option<u8>
+    requires { Laid regions.now bytes.now }
     ensures { (env : Env) (calls : Calls) → trap_of (step_in (world_with regions.now env) (Running (state_of pc registers.now regions.now bytes.now calls))) ≡ result }
 {
-    match instruction_at(base, words, pc, regions, bytes) {
-        Fetched::Found(instr) => instruction_trap(instr, registers, regions, bytes),
-        Fetched::NoWord => Some(1),
-        Fetched::NoPlace => Some(2),
+    match fetch(regions, bytes, pc) {
+        Some(word) => word_trap(word, registers, regions, bytes),
+        None => Some(2),
     }
 }
 
-/// The kind of trap that an instruction comes to, if any.
-fn instruction_trap(
-    instr: Instr,
-    registers: &Registers,
-    regions: &[Region],
-    bytes: &[u8],
-) -> Option<u8>
-    requires valid { IsValid instr }
+/// The kind of trap that a word of code comes to, if any.
+fn word_trap(code: Decoded, registers: &Registers, regions: &[Region], bytes: &[u8]) -> Option<u8>
+    requires ready { IsReady code }
     requires laid { Laid regions.now bytes.now }
-    ensures { (pc : ℕ) (env : Env) (calls : Calls) → trap_of (act (world_with regions.now env) instr (state_of pc registers.now regions.now bytes.now calls)) ≡ result }
+    ensures { (pc : ℕ) (env : Env) (calls : Calls) → trap_of (act_at (world_with regions.now env) (fetched_of code) (state_of pc registers.now regions.now bytes.now calls)) ≡ result }
 {
-    match instr {
-        Instr::Lb { rs1, imm, .. } => load_trap(Width::Byte, rs1, imm, registers, regions, bytes),
-        Instr::Lbu { rs1, imm, .. } => load_trap(Width::Byte, rs1, imm, registers, regions, bytes),
-        Instr::Lh { rs1, imm, .. } => load_trap(Width::Half, rs1, imm, registers, regions, bytes),
-        Instr::Lhu { rs1, imm, .. } => load_trap(Width::Half, rs1, imm, registers, regions, bytes),
-        Instr::Lw { rs1, imm, .. } => load_trap(Width::Word, rs1, imm, registers, regions, bytes),
-        Instr::Lwu { rs1, imm, .. } => load_trap(Width::Word, rs1, imm, registers, regions, bytes),
-        Instr::Ld { rs1, imm, .. } => load_trap(Width::Double, rs1, imm, registers, regions, bytes),
-        Instr::Sb { rs1, imm, .. } => store_trap(Width::Byte, rs1, imm, registers, regions, bytes),
-        Instr::Sh { rs1, imm, .. } => store_trap(Width::Half, rs1, imm, registers, regions, bytes),
-        Instr::Sw { rs1, imm, .. } => store_trap(Width::Word, rs1, imm, registers, regions, bytes),
-        Instr::Sd { rs1, imm, .. } => store_trap(
-            Width::Double,
-            rs1,
-            imm,
-            registers,
-            regions,
-            bytes,
-        ),
-        Instr::Ecall => call_trap(registers, regions, bytes),
-        Instr::Ebreak => Some(6),
+    let Decoded {
+        op,
+        rd,
+        rs1,
+        rs2,
+        imm,
+    } = code;
+    let _ = (rd, rs2);
+    match op {
+        Op::Lb => load_trap(Width::Byte, rs1, imm, registers, regions, bytes),
+        Op::Lbu => load_trap(Width::Byte, rs1, imm, registers, regions, bytes),
+        Op::Lh => load_trap(Width::Half, rs1, imm, registers, regions, bytes),
+        Op::Lhu => load_trap(Width::Half, rs1, imm, registers, regions, bytes),
+        Op::Lw => load_trap(Width::Word, rs1, imm, registers, regions, bytes),
+        Op::Lwu => load_trap(Width::Word, rs1, imm, registers, regions, bytes),
+        Op::Ld => load_trap(Width::Double, rs1, imm, registers, regions, bytes),
+        Op::Sb => store_trap(Width::Byte, rs1, imm, registers, regions, bytes),
+        Op::Sh => store_trap(Width::Half, rs1, imm, registers, regions, bytes),
+        Op::Sw => store_trap(Width::Word, rs1, imm, registers, regions, bytes),
+        Op::Sd => store_trap(Width::Double, rs1, imm, registers, regions, bytes),
+        Op::Ecall => call_trap(registers, regions, bytes),
+        Op::Ebreak => Some(6),
+        Op::NoWord => Some(1),
         _ => None,
     }
 }
@@ -128,9 +117,9 @@ fn load_trap(
     regions: &[Region],
     bytes: &[u8],
 ) -> Option<u8>
-    requires register { rs1 < 32 }
+    requires register { IsSource rs1 }
     requires laid { Laid regions.now bytes.now }
-    ensures { result ≡ if all_flagged regions.now 4 (bytes_of width) (sum_of (reads registers.now rs1) (word_of imm)) then None else Some 3 }
+    ensures { result ≡ if all_flagged regions.now 4 (bytes_of width) (sum_of (reads registers.now (number_of rs1)) (word_of imm)) then None else Some 3 }
 {
     let _ = bytes;
     if may(
@@ -154,9 +143,9 @@ fn store_trap(
     regions: &[Region],
     bytes: &[u8],
 ) -> Option<u8>
-    requires register { rs1 < 32 }
+    requires register { IsSource rs1 }
     requires laid { Laid regions.now bytes.now }
-    ensures { result ≡ if all_flagged regions.now 2 (bytes_of width) (sum_of (reads registers.now rs1) (word_of imm)) then None else Some 4 }
+    ensures { result ≡ if all_flagged regions.now 2 (bytes_of width) (sum_of (reads registers.now (number_of rs1)) (word_of imm)) then None else Some 4 }
 {
     let _ = bytes;
     if may(
@@ -174,7 +163,7 @@ fn store_trap(
 /// The trap of a system call.
 fn call_trap(registers: &Registers, regions: &[Region], bytes: &[u8]) -> Option<u8>
     requires { Laid regions.now bytes.now }
-    ensures { (pc : ℕ) (env : Env) (calls : Calls) → trap_of (act (world_with regions.now env) Instr.Ecall (state_of pc registers.now regions.now bytes.now calls)) ≡ result }
+    ensures { (pc : ℕ) (env : Env) (calls : Calls) → trap_of (act (world_with regions.now env) instr.Ecall (state_of pc registers.now regions.now bytes.now calls)) ≡ result }
 {
     match asked(registers, regions, bytes) {
         Ask::Nothing => None,

@@ -1,5 +1,5 @@
-use Rattle.std.proofs.Common.{◌+◌, ◌*◌, sym, subst, rules}
-use Rattle.rv_emulator.specs.States.{IsCached, StandsAt}
+use Rattle.std.proofs.Common.{◌+◌, ◌*◌, refl, sym, subst, rules}
+use Rattle.rv_emulator.specs.States.{IsCached, StaysAt}
 use Rattle.rv_emulator.proofs.Fetching.{cached_more}
 use Rattle.rv_emulator.proofs.loading.read_code.Goals as goal
 
@@ -8,11 +8,10 @@ loop-at-preserved c =
     record {
       count = search rules;
       cached =
-          subst (IsCached c.args.regions.now c.args.bytes.now c.code_place-base.result.0) (sym c.in_ok-push.ensures.items)
-          (cached_more c.args.regions.now c.args.bytes.now c.code_place-base.result.0 c.loop-at.words.items c.lasting.result
+          subst (IsCached c.args.regions.now c.args.bytes.now c.code_place-base.result.0) (sym c.in_ok-push-in-Some.ensures.items)
+          (cached_more c.args.regions.now c.args.bytes.now c.code_place-base.result.0 c.loop-at.words.items c.in-Some.word
           c.loop-at.invariant.cached
-          (λ instr is.
-          subst (λ n. StandsAt c.args.regions.now c.args.bytes.now (c.code_place-base.result.0 + 4 * n) instr)
+          (subst (λ n. StaysAt c.args.regions.now c.args.bytes.now (c.code_place-base.result.0 + 4 * n) c.in-Some.word)
           (sym c.loop-at.invariant.count)
-          (c.lasting.ensures instr is)));
+          (c.in-Some.ensures c.in-Some.word refl)));
     }

@@ -1,10 +1,10 @@
 use Rattle.std.proofs.Common.{◌≡◌, subst, arith}
-use Rattle.rv_form.specs.Instruction.{IsValid}
+use Rattle.rv_emulator.specs.Packed.{IsReady}
 use Rattle.rv_emulator.proofs.Fetching.{loaded_low}
 use Rattle.rv_emulator.proofs.memory.fetch.Goals as goal
 
-pub returns-in-Some-decode-clause-valid : goal.returns-in-Some-decode-clause-valid
-returns-in-Some-decode-clause-valid c = λ instr is. (
-  let same : c.in-Some-decode.instr ≡ instr = cc in subst IsValid same c.decoded_is_encoded.ensures.valid,
-  loaded_low c.args.regions.now c.args.bytes.now 1 3 c.args.pc c.in-Some.word c.requires.low (omega arith) c.in-Some.ensures.value,
+pub returns-in-Some-clause-ready : goal.returns-in-Some-clause-ready
+returns-in-Some-clause-ready c = λ word is. (
+  let same : c.decoded.result ≡ word = cc in subst IsReady same c.decoded.ensures.ready,
+  loaded_low c.args.regions.now c.args.bytes.now 1 3 c.args.pc c.in-Some.number c.requires.low (omega arith) c.in-Some.ensures.value,
 )

@@ -1,22 +1,23 @@
-use Rattle.std.proofs.Common.{refl}
-use Rattle.rv_emulator.proofs.Fetching.{cached_kept}
+use Rattle.std.proofs.Common.{ap, ◌∙◌}
+use Rattle.rv_form.specs.Machine.{act_at}
+use Rattle.rv_emulator.specs.States.{state_of, world_with}
+use Rattle.rv_emulator.proofs.Playing.{plays_alone}
 use Rattle.rv_emulator.proofs.step.step.Goals as goal
 
-pub exec-requires-clause-place : goal.exec-requires-clause-place
-exec-requires-clause-place g c = (c.in-Found.ensures.valid c.in-Found.instr refl).1
+pub returns-in-Go-clause-plays : goal.returns-in-Go-clause-plays
+returns-in-Go-clause-plays g c =
+    plays_alone (λ env calls.
+    ap
+    (λ seen.
+    act_at (world_with c.args.regions.now env) seen (state_of c.args.pc c.args.registers.now c.args.regions.now c.args.bytes.now calls))
+    c.requires.stands.stands
+    ∙ c.in-Go.ensures.done env calls)
 
-pub system-requires-clause-place : goal.system-requires-clause-place
-system-requires-clause-place g c = (c.in-Found.ensures.valid c.in-Found.instr refl).1
-
-pub returns-in-Go-clause-cached : goal.returns-in-Go-clause-cached
-returns-in-Go-clause-cached g c =
-    cached_kept c.args.regions.now c.args.bytes.now c.exec.new.bytes c.args.base c.args.words.now c.exec.ensures.kept c.requires.cached
-
-pub returns-in-Trap-clause-cached : goal.returns-in-Trap-clause-cached
-returns-in-Trap-clause-cached g c =
-    cached_kept c.args.regions.now c.args.bytes.now c.exec.new.bytes c.args.base c.args.words.now c.exec.ensures.kept c.requires.cached
-
-pub returns-in-Call-clause-cached : goal.returns-in-Call-clause-cached
-returns-in-Call-clause-cached g c =
-    cached_kept c.args.regions.now c.exec.new.bytes c.system.new.bytes c.args.base c.args.words.now c.system.ensures.kept
-    (cached_kept c.args.regions.now c.args.bytes.now c.exec.new.bytes c.args.base c.args.words.now c.exec.ensures.kept c.requires.cached)
+pub returns-in-Trap-clause-plays : goal.returns-in-Trap-clause-plays
+returns-in-Trap-clause-plays g c =
+    plays_alone (λ env calls.
+    ap
+    (λ seen.
+    act_at (world_with c.args.regions.now env) seen (state_of c.args.pc c.args.registers.now c.args.regions.now c.args.bytes.now calls))
+    c.requires.stands.stands
+    ∙ c.in-Trap.ensures.done env calls)

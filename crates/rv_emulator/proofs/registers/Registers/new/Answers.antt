@@ -3,4 +3,4 @@ use Rattle.rv_emulator.proofs.Digits.{zeros_at}
 use Rattle.rv_emulator.proofs.registers.Registers.new.Goals as goal
 
 pub returns : goal.returns
-returns c = fun_ext (λ r. zeros_at 32 r)
+returns c = fun_ext (λ r. zeros_at 33 r)
