@@ -1,5 +1,5 @@
--- What the compiler answers: the file of a program, or why there is none.
-use Rattle.std.specs.Prelude.{◌≡◌, ℕ, ◌<◌, ◌≤◌, ◌^◌, List, ◌∷◌, ◌⊎◌, map, length}
+-- What the compiler answers: the analysis and the file of a program, or why there is none.
+use Rattle.std.specs.Prelude.{◌≡◌, ℕ, ◌<◌, ◌≤◌, ◌^◌, List, ◌∷◌, ◌⊎◌, map, length, Some, None}
 use Rattle.std.specs.List.{range_with_len}
 use Rattle.scheme_base.specs.declared.error.LimitErr.{LimitErr}
 use Rattle.scheme_base.specs.declared.error.LimitErr.TheVariants as limited
@@ -24,6 +24,11 @@ use Rattle.named_form.specs.Valid.{WellFormed}
 use Rattle.named_form.specs.Written.{form}
 use Rattle.named_form.specs.declared.plan.Plan.{Plan}
 use Rattle.named_form.specs.declared.program.Named.{Named}
+use Rattle.flow_form.specs.declared.constraints.Constraints.{Constraints}
+use Rattle.flow_form.specs.Shape.{IsMadeOf}
+use Rattle.flow_constraints.specs.Limits.{atom_count, passed, row_count}
+use Rattle.flow_constraints.specs.Listed.{rules_of}
+use Rattle.flow_workers.specs.Rounds.{IsSolved}
 use Rattle.flat_form.specs.FlatWritten.{form as flat_form_of}
 use Rattle.flat_form.specs.declared.program.Flat.{Flat}
 use Rattle.closure_conv.specs.FlatOf.{flat_of}
@@ -34,6 +39,7 @@ use Rattle.rv_asm.specs.declared.item.AsmItem.{AsmItem}
 use Rattle.rv_asm.specs.Layout.{image_of, image_size, cut}
 use Rattle.image_support.specs.Text.{text as routines}
 use Rattle.tail_codegen.specs.Written.{code_of}
+use Rattle.image_build.specs.declared.analysis.Analysis.{Analysis}
 use Rattle.image_build.specs.declared.error.BuildErr.{BuildErr}
 use Rattle.image_build.specs.declared.error.BuildErr.TheVariants.{Read, Form, Limit as Passed, NoMemory}
 
@@ -58,6 +64,18 @@ told_limit limited.NoMemory = NoMemory
 -- a text reads as data
 abbrev pub IsRead : List ℕ → Type 0
 IsRead source = (read : Items) × Reads source read
+
+-- the constraints of a program: those that its rows, its atoms and the list of its rules make
+pub record IsRuled (named : Named) (constraints : Constraints) : Type 0 where
+  pub made : IsMadeOf constraints (row_count (form named)) (atom_count (form named)) (rules_of (form named))
+  -- it passes no limit of the analysis
+  pub few : passed (form named) ≡ None
+
+-- The analysis of the program that a text is: its constraints, and their least solution.
+pub record IsAnalysed (source : List ℕ) (analysis : Analysis) : Type 0 where
+  pub read : IsRead source
+  pub ruled : IsRuled analysis.named analysis.constraints
+  pub solved : IsSolved analysis.constraints analysis.closed
 
 -- the flat program of a named one under a storage plan, which is the plain plan of a well-formed program
 pub record IsFlat (named : Named) (flat : Flat) : Type 0 where
@@ -97,6 +115,7 @@ pub record IsImage (flat : Flat) (heap : ℕ) (image : Image) : Type 0 where
 pub record Emitted (source : List ℕ) (heap : ℕ) (file : List ℕ) : Type 0 where
   pub read : IsRead source
   pub named : Named
+  pub few : passed (form named) ≡ None
   pub flat : Flat
   pub is_flat : IsFlat named flat
   pub image : Image
@@ -123,18 +142,30 @@ abbrev pub IsUnlaid : Flat → LimitErr → Type 0
 IsUnlaid flat (limited.Limit l) = IsTooLarge flat l
 IsUnlaid flat limited.NoMemory = Unit {0}
 
--- a limit past which a pass behind the reader refuses
-abbrev pub PassesLater : Limit → Type 0
-PassesLater l = IsTooDeep l ⊎ ((named : Named) × (flat : Flat) × IsFlat named flat × IsTooLarge flat l)
+-- a limit past which a program is not analysed: its depth, or the first of the analysis that it passes
+abbrev pub PassesEarly : Limit → Type 0
+PassesEarly l = IsTooDeep l ⊎ ((named : Named) × (passed (form named) ≡ Some l))
 
--- a refusal of a pass behind the reader
-abbrev pub IsLater : BuildErr → Type 0
-IsLater (Read e) = ⊥
-IsLater (Form e) = Unit {0}
-IsLater (Passed l) = PassesLater l
-IsLater NoMemory = Unit {0}
+-- a limit past which it has no file: one of these, or that of the image
+abbrev pub PassesLate : Limit → Type 0
+PassesLate l = PassesEarly l ⊎ ((named : Named) × (flat : Flat) × IsFlat named flat × IsTooLarge flat l)
 
--- why a text has no file at the reader, or behind it
+-- a refusal of a pass behind the reader, of which these limits may be passed
+abbrev pub IsLater : (Limit → Type 0) → BuildErr → Type 0
+IsLater Passes (Read e) = ⊥
+IsLater Passes (Form e) = Unit {0}
+IsLater Passes (Passed l) = Passes l
+IsLater Passes NoMemory = Unit {0}
+
+-- why a text is refused, at the reader or behind it
+abbrev pub RefusedBy : (Limit → Type 0) → List ℕ → BuildErr → Type 0
+RefusedBy Passes source error =
+    ((e : ReadErr) × ReadFault source e × (error ≡ told_read e)) ⊎ (IsRead source × IsLater Passes error) ⊎ (error ≡ NoMemory)
+
+-- why a text has no analysis
+abbrev pub Unanalysed : List ℕ → BuildErr → Type 0
+Unanalysed source error = RefusedBy PassesEarly source error
+
+-- why it has no file
 abbrev pub Refuses : List ℕ → (heap : ℕ) → BuildErr → Type 0
-Refuses source heap error =
-    ((e : ReadErr) × ReadFault source e × (error ≡ told_read e)) ⊎ (IsRead source × IsLater error) ⊎ (error ≡ NoMemory)
+Refuses source heap error = RefusedBy PassesLate source error

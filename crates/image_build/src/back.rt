@@ -9,7 +9,7 @@ ghost use Rattle.image_build.specs.Emitted.{Emitted, IsFlat, IsImage, IsUnlaid, 
 use crate::BuildErr;
 use crate::codes::codes;
 use crate::error::limit_error;
-use crate::front::named_of;
+use crate::front::accepted;
 use closure_conv::flatten;
 use const_data::{Offsets, static_words};
 use flat_form::Flat;
@@ -41,7 +41,10 @@ pub fn build<R: AllocGlobal + Threads + Sync, G: Gate>(
     ensures refused { IfErr result (λ error. Refuses source.now heap error) }
 {
     let _ = gate;
-    let named = named_of(alloc, source)?;
+    let named = match accepted(alloc, source) {
+        Ok(named) => named,
+        Err(error) => return Err(error),
+    };
     let Ok(flat) = flat_of(alloc, &named) else {
         return Err(BuildErr::NoMemory);
     };

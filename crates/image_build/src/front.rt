@@ -1,8 +1,10 @@
-//! From the text of a program to its named form.
+//! From the text of a program to its named form and its constraints.
 
-ghost use Rattle.std.specs.Prelude.{IfOk, IfErr};
+ghost use Rattle.std.specs.Prelude.{◌≡◌, None, IfOk, IfErr};
 ghost use Rattle.core_form.specs.Text.{HasText};
-ghost use Rattle.image_build.specs.Emitted.{IsLater, IsRead, Refuses};
+ghost use Rattle.named_form.specs.Written.{form};
+ghost use Rattle.flow_constraints.specs.Limits.{passed};
+ghost use Rattle.image_build.specs.Emitted.{IsLater, IsRead, IsRuled, PassesEarly, Unanalysed};
 
 use crate::BuildErr;
 use crate::error::{form_error, limit_error, read_error};
@@ -11,6 +13,8 @@ use box_name::name;
 use core_form::Core;
 use datum_form::Datums;
 use datum_reader::read_program;
+use flow_constraints::generate;
+use flow_form::Constraints;
 use named_form::Named;
 use scheme_expand::expand;
 use std::alloc::Global;
@@ -18,7 +22,7 @@ use std::alloc::Global;
 /// The named form of the program that a text is.
 pub(crate) fn named_of(alloc: Global, source: &[u8]) -> Result<Named, BuildErr>
     ensures read { IfOk result (λ named. IsRead source.now) }
-    ensures refused { IfErr result (λ error. Refuses source.now 0 error) }
+    ensures refused { IfErr result (λ error. Unanalysed source.now error) }
 {
     let data = match read_program(alloc, source) {
         Ok(data) => data,
@@ -29,7 +33,7 @@ pub(crate) fn named_of(alloc: Global, source: &[u8]) -> Result<Named, BuildErr>
 
 /// The named form of the program that some data are.
 fn named_data(alloc: Global, data: &Datums) -> Result<Named, BuildErr>
-    ensures { IfErr result IsLater }
+    ensures { IfErr result (IsLater PassesEarly) }
 {
     let core = match expand(alloc, data) {
         Ok(core) => core,
@@ -41,7 +45,7 @@ fn named_data(alloc: Global, data: &Datums) -> Result<Named, BuildErr>
 /// The named form of a core.
 fn named_core(alloc: Global, core: &Core) -> Result<Named, BuildErr>
     requires { HasText core.now }
-    ensures { IfErr result IsLater }
+    ensures { IfErr result (IsLater PassesEarly) }
 {
     let renamed = match rename(alloc, core) {
         Ok(renamed) => renamed,
@@ -50,5 +54,32 @@ fn named_core(alloc: Global, core: &Core) -> Result<Named, BuildErr>
     match name(alloc, &renamed) {
         Ok(named) => Ok(named),
         Err(_) => Err(BuildErr::NoMemory),
+    }
+}
+
+/// The named form of the program that a text is, if it passes no limit of the analysis.
+pub(crate) fn accepted(alloc: Global, source: &[u8]) -> Result<Named, BuildErr>
+    ensures read { IfOk result (λ named. IsRead source.now) }
+    ensures few { IfOk result (λ named. passed (form named) ≡ None) }
+    ensures refused { IfErr result (λ error. Unanalysed source.now error) }
+{
+    let named = match named_of(alloc, source) {
+        Ok(named) => named,
+        Err(error) => return Err(error),
+    };
+    match constraints_of(alloc, &named) {
+        Ok(_constraints) => Ok(named),
+        Err(error) => Err(error),
+    }
+}
+
+/// The constraints of a program.
+pub(crate) fn constraints_of(alloc: Global, named: &Named) -> Result<Constraints, BuildErr>
+    ensures ruled { IfOk result (IsRuled named.now) }
+    ensures refused { IfErr result (IsLater PassesEarly) }
+{
+    match generate(alloc, named) {
+        Ok(constraints) => Ok(constraints),
+        Err(error) => Err(limit_error(error)),
     }
 }

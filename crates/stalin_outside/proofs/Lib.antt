@@ -6,4 +6,4 @@ mod Interrupted
 mod Pieces
 mod SomeEnvironment
 mod ShowsTrace
-mod TextsWritten
+pub mod TextsWritten

@@ -7,7 +7,7 @@ use Rattle.std.proofs.Math.Seq.{take-append-add}
 use Rattle.stalin_outside.specs.declared.console.Answer.TheVariants as answers
 use Rattle.stalin_outside.specs.Causes.{HasCause}
 use Rattle.stalin_outside.specs.Console.{Told, AddsAll}
-use Rattle.stalin_outside.specs.Sending.{Outlet, errors_of, IsTaken, answers_to, Gains, Sends, joined}
+use Rattle.stalin_outside.specs.Sending.{Outlet, errors_of, output_of, IsTaken, answers_to, Gains, Prints, Sends, joined}
 use Rattle.stalin_outside.proofs.Appended.{gains_both, adds_both}
 
 -- Causes
@@ -72,22 +72,7 @@ cut_before text rest before now one =
       cause = one.cause;
     }
 
--- Texts to the errors
-
-sends_then : (text more : List ℕ) (whole : Bool) (before between now : Told) → Sends text true before between
-    → Sends more whole between now → Sends (text ++ more) whole before now
-sends_then text more whole before between now one other =
-    record {
-      sent = gains_then text more whole (errors_of before) (errors_of between) (errors_of now) one.sent other.sent;
-      input = other.input ∙ one.input;
-      output = other.output ∙ one.output;
-    }
-
-sends_cut_before : (text rest : List ℕ) (before now : Told) → Sends text false before now → Sends (text ++ rest) false before now
-sends_cut_before text rest before now one =
-    record { sent = cut_before text rest (errors_of before) (errors_of now) one.sent; input = one.input; output = one.output }
-
--- Texts in parts
+-- the parts before one were written whole, and that one is cut off
 
 joined_at : (parts : List (Bor (List ℕ))) (i : ℕ) (d : Bor (List ℕ)) → i < length parts
     → joined parts ≡ (joined (take i parts) ++ (get_or parts i d).now) ++ joined (drop (suc i) parts)
@@ -98,11 +83,47 @@ joined_at (part ∷ parts) (suc i) d within =
     ∙ (sym (append_assoc part.now (joined (take i parts) ++ (get_or parts i d).now) (joined (drop (suc i) parts)))
     ∙ ap (λ text. text ++ joined (drop (suc i) parts)) (sym (append_assoc part.now (joined (take i parts)) (get_or parts i d).now)))
 
--- the parts before one were sent whole, and that one is cut off
+gains_cut : (parts : List (Bor (List ℕ))) (i : ℕ) (d : Bor (List ℕ)) (before between now : Outlet) → i < length parts
+    → Gains (joined (take i parts)) true before between → Gains (get_or parts i d).now false between now
+    → Gains (joined parts) false before now
+gains_cut parts i d before between now within one other =
+    subst (λ text. Gains text false before now) (sym (joined_at parts i d within))
+    (cut_before (joined (take i parts) ++ (get_or parts i d).now) (joined (drop (suc i) parts)) before now
+    (gains_then (joined (take i parts)) (get_or parts i d).now false before between now one other))
+
+-- Texts to the errors
+
 pub sends_cut : (parts : List (Bor (List ℕ))) (i : ℕ) (d : Bor (List ℕ)) (before between now : Told) → i < length parts
     → Sends (joined (take i parts)) true before between → Sends (get_or parts i d).now false between now
     → Sends (joined parts) false before now
 sends_cut parts i d before between now within one other =
-    subst (λ text. Sends text false before now) (sym (joined_at parts i d within))
-    (sends_cut_before (joined (take i parts) ++ (get_or parts i d).now) (joined (drop (suc i) parts)) before now
-    (sends_then (joined (take i parts)) (get_or parts i d).now false before between now one other))
+    record {
+      sent = gains_cut parts i d (errors_of before) (errors_of between) (errors_of now) within one.sent other.sent;
+      input = other.input ∙ one.input;
+      output = other.output ∙ one.output;
+    }
+
+-- Texts to the output
+
+pub prints_cut : (parts : List (Bor (List ℕ))) (i : ℕ) (d : Bor (List ℕ)) (before between now : Told) → i < length parts
+    → Prints (joined (take i parts)) true before between → Prints (get_or parts i d).now false between now
+    → Prints (joined parts) false before now
+prints_cut parts i d before between now within one other =
+    record {
+      printed = gains_cut parts i d (output_of before) (output_of between) (output_of now) within one.printed other.printed;
+      input = other.input ∙ one.input;
+      errors = other.errors ∙ one.errors;
+    }
+
+pub prints_then : (text more : List ℕ) (whole : Bool) (before between now : Told) → Prints text true before between
+    → Prints more whole between now → Prints (text ++ more) whole before now
+prints_then text more whole before between now one other =
+    record {
+      printed = gains_then text more whole (output_of before) (output_of between) (output_of now) one.printed other.printed;
+      input = other.input ∙ one.input;
+      errors = other.errors ∙ one.errors;
+    }
+
+pub prints_front : (text rest : List ℕ) (before now : Told) → Prints text false before now → Prints (text ++ rest) false before now
+prints_front text rest before now one =
+    record { printed = cut_before text rest (output_of before) (output_of now) one.printed; input = one.input; errors = one.errors }

@@ -31,7 +31,7 @@ pub use gate::{Gate, OpenGate};
 pub use law::{answers_are_of_an_environment, console_shows_the_trace};
 pub use mem_console::MemConsole;
 pub use mem_shelf::MemShelf;
-pub use sending::{print, send, send_all};
+pub use sending::{print, print_all, send, send_all};
 pub use shelf::{Ask, Begun, Got, Kind, Shelf, Took};
 pub use streams::StdConsole;
 pub use whole_files::{Reading, Writing, read_file, write_file};

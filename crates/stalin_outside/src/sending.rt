@@ -15,6 +15,18 @@ pub fn print<C: Console>(console: &mut C, text: &[u8]) -> bool
     true
 }
 
+/// Writes the parts of a text to the output, up to the first call that fails; tells whether none did.
+pub fn print_all<C: Console>(console: &mut C, parts: &[&[u8]]) -> bool
+    ensures { Prints (joined parts.now) result (C.told console.old) (C.told console.new) }
+{
+    for part in parts {
+        if !print(console, part) {
+            return false;
+        }
+    }
+    true
+}
+
 /// Writes a text to the errors, up to the first call that fails; tells whether none did.
 pub fn send<C: Console>(console: &mut C, text: &[u8]) -> bool
     ensures { Sends text.now result (C.told console.old) (C.told console.new) }

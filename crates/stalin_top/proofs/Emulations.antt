@@ -24,7 +24,7 @@ use Rattle.rv_emulator.specs.Held.{run_of as held_run}
 use Rattle.rv_emulator.specs.Loading.{AreFit, IsLoadable, room_of}
 use Rattle.rv_emulator.specs.Plays.{Plays}
 use Rattle.stalin_top.specs.declared.answer.Answer.{Answer}
-use Rattle.stalin_top.specs.declared.answer.Answer.TheVariants.{Done, Usage, Refused, TooLarge, FileFault, BadImage, Spent, Trapped, Image, NoMemory}
+use Rattle.stalin_top.specs.declared.answer.Answer.TheVariants.{Done, Usage, Refused, TooLarge, FileFault, ConsoleFault, BadImage, Spent, Trapped, Image, NoMemory}
 use Rattle.stalin_top.specs.Emulate.{run_of, IsAnswerTo, IsEmulated, IsRun, IsFile, Emulation, IsOfRun, ImageCauses, IsAskedForImage, Emulates}
 use Rattle.stalin_top.specs.Outside.{Outside, IfTold}
 
@@ -105,6 +105,7 @@ of_run files name steps bytes Done before now file run = absurd run
 of_run files name steps bytes (Usage word) before now file run = absurd run
 of_run files name steps bytes (TooLarge limit) before now file run = absurd run
 of_run files name steps bytes FileFault before now file run = absurd run
+of_run files name steps bytes ConsoleFault before now file run = absurd run
 of_run files name steps bytes (Refused refusal) before now file run = absurd run
 of_run files name steps bytes (BadImage err) before now file run = (bytes, file, run)
 of_run files name steps bytes (Spent n) before now file run = (bytes, file, run)
@@ -169,6 +170,7 @@ causes_of : (files : Files) (name : List ℕ) (steps : ℕ) (answer : Answer) (b
     → Emulation (Some files) name steps answer before now → ImageCauses name answer files
 causes_of files name steps Done before now run = absurd run.2
 causes_of files name steps (Usage word) before now run = absurd run.2
+causes_of files name steps ConsoleFault before now run = absurd run.2
 causes_of files name steps (Refused refusal) before now run = absurd run.2
 causes_of files name steps (Image status) before now run = of_image files name run.0 run.2.image (Image status) run.1 run.2.held tt
 causes_of files name steps (Spent n) before now run = of_image files name run.0 run.2.image (Spent n) run.1 run.2.held tt

@@ -1,6 +1,10 @@
 pub mod Emulations
 pub mod Fitting
-pub mod NoImage
 pub mod Numbers
+pub mod NumbersTold
 pub mod OneWordMore
 pub mod Outcomes
+pub mod Stops
+pub mod TableTexts
+pub mod TablesPrinted
+pub mod TextsPut

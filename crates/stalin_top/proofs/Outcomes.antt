@@ -14,12 +14,13 @@ use Rattle.image_build.specs.Emitted.{Emitted, Refuses}
 use Rattle.image_build.specs.declared.error.BuildErr.{BuildErr}
 use Rattle.image_build.specs.declared.error.BuildErr.TheVariants as build
 use Rattle.stalin_top.specs.declared.answer.Answer.{Answer}
-use Rattle.stalin_top.specs.declared.answer.Answer.TheVariants.{Done, Usage, Refused, TooLarge, FileFault, BadImage, Spent, Trapped, Image, NoMemory}
+use Rattle.stalin_top.specs.declared.answer.Answer.TheVariants.{Done, Usage, Refused, TooLarge, FileFault, ConsoleFault, BadImage, Spent, Trapped, Image, NoMemory}
 use Rattle.stalin_top.specs.declared.answer.Refusal.TheVariants as refusals
 use Rattle.stalin_top.specs.Answer.{Yields}
 use Rattle.stalin_top.specs.Emulate as emulations
 use Rattle.stalin_top.specs.Outside.{Outside, IfTold}
-use Rattle.stalin_top.specs.Source.{IsSource, IsBuilt, StopsAs, source_limit}
+use Rattle.stalin_top.specs.Source.{AsksSource, IsSource, IsBuilt, StopsAs, source_limit}
+use Rattle.stalin_top.proofs.Stops.{no_long, stop_complete, stop_limited}
 use Rattle.stalin_top.specs.Compile.{Outcome, Causes, IsAsked, Compiles}
 use Rattle.stalin_top.specs.Run as runs
 use Rattle.stalin_top.specs.Run.{Runs}
@@ -82,6 +83,7 @@ stopped source image heap (Usage word) before now stops same = absurd stops
 stopped source image heap (Refused refusal) before now stops same = (stops, same)
 stopped source image heap (TooLarge limit) before now stops same = (stops, same)
 stopped source image heap FileFault before now stops same = inl same
+stopped source image heap ConsoleFault before now stops same = absurd stops
 stopped source image heap (BadImage err) before now stops same = absurd stops
 stopped source image heap (Spent steps) before now stops same = absurd stops
 stopped source image heap (Trapped kind pc) before now stops same = absurd stops
@@ -89,64 +91,6 @@ stopped source image heap (Image status) before now stops same = absurd stops
 stopped source image heap NoMemory before now stops same = (stops, same)
 
 -- Which answer comes to which text
-
-same_text : (file : Option (List ℕ)) (a b : List ℕ) → file ≡ Some a → file ≡ Some b → b ≡ a
-same_text file a b one two = cc
-
--- to a text of this length, which some file holds, another answer comes than to one that is too long
-not_long : (file : Option (List ℕ)) (text long : List ℕ) → file ≡ Some text → length text ≤ 2 ^ 20 → file ≡ Some long
-    → 2 ^ 20 < length long → ⊥
-not_long file text long one short two more =
-    let e : length long ≡ length text = ap length (same_text file text long one two) in omega arith
-
--- a text without a reason to refuse it is not refused
-no_reason : (files : Files) (source text other : List ℕ) (heap : ℕ) (error : BuildErr) → error ≢ build.NoMemory
-    → IsSource (Some files) source text → IsSource (Some files) source other → Refuses other heap error
-    → ((error : BuildErr) → error ≢ build.NoMemory → ¬ Refuses text heap error) → ⊥
-no_reason files source text other heap error some one two refuses none =
-    none error some (subst (λ t. Refuses t heap error) (same_text (files source) text other one.0 two.0) refuses)
-
-stop_complete : (files : Files) (source text : List ℕ) (heap : ℕ) (answer : Answer) → StopsAs (Some files) source heap answer
-    → IsSource (Some files) source text → ((error : BuildErr) → error ≢ build.NoMemory → ¬ Refuses text heap error)
-    → (answer ≡ FileFault) ⊎ (answer ≡ NoMemory)
-stop_complete files source text heap (Refused (refusals.Read e)) stops there none =
-    absurd (no_reason files source text stops.text heap (build.Read e) (λ is. cc) there stops.held stops.refuses none)
-stop_complete files source text heap (Refused (refusals.Form e)) stops there none =
-    absurd (no_reason files source text stops.text heap (build.Form e) (λ is. cc) there stops.held stops.refuses none)
-stop_complete files source text heap (TooLarge limit) (inl long) there none =
-    absurd (not_long (files source) text long.0.0 there.0 there.1 long.0.1 long.0.2)
-stop_complete files source text heap (TooLarge limit) (inr stops) there none =
-    absurd (no_reason files source text stops.text heap (build.Limit limit) (λ is. cc) there stops.held stops.refuses none)
-stop_complete files source text heap FileFault stops there none = inl refl
-stop_complete files source text heap NoMemory stops there none = inr refl
-stop_complete files source text heap Done stops there none = absurd stops
-stop_complete files source text heap (Usage word) stops there none = absurd stops
-stop_complete files source text heap (BadImage err) stops there none = absurd stops
-stop_complete files source text heap (Spent steps) stops there none = absurd stops
-stop_complete files source text heap (Trapped kind pc) stops there none = absurd stops
-stop_complete files source text heap (Image status) stops there none = absurd stops
-
-no_long : (files : Files) (source text long : List ℕ) → IsSource (Some files) source text → files source ≡ Some long
-    → 2 ^ 20 < length long → ⊥
-no_long files source text long there held more = not_long (files source) text long there.0 there.1 held more
-
-stop_limited : (files : Files) (source long : List ℕ) (heap : ℕ) (answer : Answer) → StopsAs (Some files) source heap answer
-    → files source ≡ Some long → 2 ^ 20 < length long → Yields (TooLarge source_limit) answer
-stop_limited files source long heap (Refused (refusals.Read e)) stops held more =
-    absurd (no_long files source stops.text long stops.held held more)
-stop_limited files source long heap (Refused (refusals.Form e)) stops held more =
-    absurd (no_long files source stops.text long stops.held held more)
-stop_limited files source long heap (TooLarge limit) (inl is) held more = inl (ap TooLarge is.1)
-stop_limited files source long heap (TooLarge limit) (inr stops) held more =
-    absurd (no_long files source stops.text long stops.held held more)
-stop_limited files source long heap FileFault stops held more = inr (inl refl)
-stop_limited files source long heap NoMemory stops held more = inr (inr refl)
-stop_limited files source long heap Done stops held more = absurd stops
-stop_limited files source long heap (Usage word) stops held more = absurd stops
-stop_limited files source long heap (BadImage err) stops held more = absurd stops
-stop_limited files source long heap (Spent steps) stops held more = absurd stops
-stop_limited files source long heap (Trapped kind pc) stops held more = absurd stops
-stop_limited files source long heap (Image status) stops held more = absurd stops
 
 causes_of : (files : Files) (now : Option Files) (source image : List ℕ) (heap : ℕ) (answer : Answer)
     → Outcome source image heap answer (Some files) now → Causes source heap answer files
@@ -159,8 +103,8 @@ causes_of files now source image heap FileFault outcome =
     record { complete = λ text there none. inr (inl refl); limited = λ long held more. inr (inl refl) }
 causes_of files now source image heap answer outcome =
     record {
-      complete = λ text there none. inr (stop_complete files source text heap answer outcome.0 there none);
-      limited = λ long held more. stop_limited files source long heap answer outcome.0 held more;
+      complete = λ text there none. inr (stop_complete (λ text error. Refuses text heap error) files source text answer outcome.0 there none);
+      limited = λ long held more. stop_limited (λ text error. Refuses text heap error) files source long answer outcome.0 held more;
     }
 
 causes : (files now : Option Files) (source image : List ℕ) (heap : ℕ) (answer : Answer)
@@ -207,6 +151,7 @@ ran_bytes files source bytes heap steps (Usage word) before now built run = absu
 ran_bytes files source bytes heap steps (Refused refusal) before now built run = absurd run
 ran_bytes files source bytes heap steps (TooLarge limit) before now built run = absurd run
 ran_bytes files source bytes heap steps FileFault before now built run = absurd run
+ran_bytes files source bytes heap steps ConsoleFault before now built run = absurd run
 
 pub ran : (files : Option Files) (source bytes slice : List ℕ) (heap steps : ℕ) (answer : Answer) (before now : Told)
     → IsBuilt files source heap bytes → slice ≡ bytes → emulations.IsRun slice steps answer before now
@@ -240,8 +185,8 @@ run_causes_of files source heap steps (Trapped kind pc) before now outcome =
     }
 run_causes_of files source heap steps answer before now outcome =
     record {
-      complete = λ text there none. inr (stop_complete files source text heap answer outcome.0 there none);
-      limited = λ long held more. stop_limited files source long heap answer outcome.0 held more;
+      complete = λ text there none. inr (stop_complete (λ text error. Refuses text heap error) files source text answer outcome.0 there none);
+      limited = λ long held more. stop_limited (λ text error. Refuses text heap error) files source long answer outcome.0 held more;
     }
 
 run_causes : (files : Option Files) (source : List ℕ) (heap steps : ℕ) (answer : Answer) (before now : Told)
@@ -252,7 +197,7 @@ run_causes (Some files) source heap steps answer before now outcome =
 
 pub runs_so : (source : List ℕ) (heap steps : ℕ) (answer : Answer) (before after : Outside) → SameFiles before.files after.files
     → runs.Outcome before.files source heap steps answer before.console after.console
-    → runs.IsAsked source answer before.asks after.asks → Runs source heap steps answer before after
+    → AsksSource source answer before.asks after.asks → Runs source heap steps answer before after
 runs_so source heap steps answer before after files outcome asks =
     record {
       files = files;

@@ -9,7 +9,7 @@ use Rattle.datum_reader.specs.declared.error.ReadErr.TheVariants as reads
 use Rattle.elf_write.specs.declared.error.ElfErr.TheVariants as breaks
 use Rattle.stalin_top.specs.declared.answer.Refusal.TheVariants as refusals
 use Rattle.stalin_top.specs.declared.answer.Answer.{Answer}
-use Rattle.stalin_top.specs.declared.answer.Answer.TheVariants.{Done, Usage, Refused, TooLarge, FileFault, BadImage, Spent, Trapped, Image, NoMemory}
+use Rattle.stalin_top.specs.declared.answer.Answer.TheVariants.{Done, Usage, Refused, TooLarge, FileFault, ConsoleFault, BadImage, Spent, Trapped, Image, NoMemory}
 
 abbrev pub status_of : Answer → ℕ
 status_of Done = 0
@@ -17,6 +17,7 @@ status_of (Usage word) = 64
 status_of (Refused refusal) = 65
 status_of (TooLarge limit) = 66
 status_of FileFault = 74
+status_of ConsoleFault = 73
 status_of (BadImage err) = 76
 status_of (Spent steps) = 75
 status_of (Trapped kind pc) = 77
@@ -49,6 +50,7 @@ text_of (Refused (refusals.Read error)) = read_text error
 text_of (Refused (refusals.Form error)) = form_text error
 text_of (TooLarge limit) = codes "too large: " ++ (name_of limit.which ++ (32 ∷ [] ++ (decimal limit.count ++ 10 ∷ [])))
 text_of FileFault = codes "file fault" ++ 10 ∷ []
+text_of ConsoleFault = []
 text_of (BadImage breaks.Short) = codes "bad image: 1" ++ 10 ∷ []
 text_of (BadImage breaks.Magic) = codes "bad image: 2" ++ 10 ∷ []
 text_of (BadImage breaks.Kind) = codes "bad image: 3" ++ 10 ∷ []

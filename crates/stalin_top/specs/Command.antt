@@ -10,7 +10,7 @@ use Rattle.std.specs.Option.{option_map}
 use Rattle.std.specs.Str.{bytes_eq}
 use Rattle.std.specs.Str.Parse.{digits_value}
 use Rattle.stalin_top.specs.declared.shape.Operand.{Operand}
-use Rattle.stalin_top.specs.declared.shape.Operand.TheVariants.{File}
+use Rattle.stalin_top.specs.declared.shape.Operand.TheVariants.{File, Count}
 use Rattle.stalin_top.specs.declared.shape.Options.{Options}
 use Rattle.stalin_top.specs.declared.shape.Range.{Range}
 use Rattle.stalin_top.specs.declared.shape.Setting.{Setting}
@@ -26,6 +26,8 @@ verb_of name =
     if bytes_eq name (codes "compile") then Some verbs.Compile
     else if bytes_eq name (codes "run") then Some verbs.Run
     else if bytes_eq name (codes "emulate") then Some verbs.Emulate
+    else if bytes_eq name (codes "facts") then Some verbs.Facts
+    else if bytes_eq name (codes "make") then Some verbs.Make
     else None
 
 -- what a command takes: its operands in order, and its options
@@ -39,6 +41,8 @@ shape_of verbs.Compile =
 shape_of verbs.Run = record { operands = File ∷ []; options = record { workers = true; heap = true; steps = true } }
 shape_of verbs.Emulate =
     record { operands = File ∷ []; options = record { workers = false; heap = false; steps = true } }
+shape_of verbs.Facts = record { operands = File ∷ []; options = record { workers = true; heap = false; steps = false } }
+shape_of verbs.Make = record { operands = Count ∷ []; options = record { workers = true; heap = true; steps = false } }
 
 abbrev pub setting_of : List ℕ → Option Setting
 setting_of word =
@@ -87,6 +91,10 @@ abbrev pub number_in : Range → List ℕ → Option ℕ
 number_in range word =
     let n = digits_value 10 word in if bytes_eq word (decimal n) && is_in range n then Some n else None
 
+-- how many procedures may be made
+abbrev pub counts : Range
+counts = record { least = 0; most = 1000; multiple = 1 }
+
 -- what the words so far say; `pending` is an option whose value comes next
 pub record Said : Type 0 where
   pub operands : List (List ℕ)
@@ -114,6 +122,7 @@ abbrev pub is_operand : Option Operand → List ℕ → Bool
 is_operand None word = false
 is_operand (Some File) [] = false
 is_operand (Some File) (byte ∷ bytes) = true
+is_operand (Some Count) word = is_some (number_in counts word)
 
 abbrev pub with_operand : Option Operand → List ℕ → Said → Option Said
 with_operand operand word said =
@@ -133,6 +142,8 @@ pub data Task : Type 0 where
   Compile : (source image : List ℕ) (workers heap : ℕ) → Task
   Run : (source : List ℕ) (workers heap steps : ℕ) → Task
   Emulate : (image : List ℕ) (steps : ℕ) → Task
+  Facts : (source : List ℕ) (workers : ℕ) → Task
+  Make : (count workers heap : ℕ) → Task
 
 -- what is to be done where no word is missing
 abbrev pub task_of : Verb → List (List ℕ) → Settings → Option Task
@@ -141,6 +152,9 @@ task_of verbs.Compile (source ∷ image ∷ []) settings =
 task_of verbs.Run (source ∷ []) settings =
     Some (Run source (value_of settings Workers) (value_of settings Heap) (value_of settings Steps))
 task_of verbs.Emulate (image ∷ []) settings = Some (Emulate image (value_of settings Steps))
+task_of verbs.Facts (source ∷ []) settings = Some (Facts source (value_of settings Workers))
+task_of verbs.Make (count ∷ []) settings =
+    option_map (λ n. Make n (value_of settings Workers) (value_of settings Heap)) (number_in counts count)
 task_of verb operands settings = None
 
 abbrev pub task_said : Verb → (pending : Option Setting) → Said → Option Task

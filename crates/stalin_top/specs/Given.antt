@@ -22,6 +22,8 @@ abbrev pub task_by : Command → Task
 task_by (commands.Compile source image workers heap) = tasks.Compile source.now image.now workers heap
 task_by (commands.Run source workers heap steps) = tasks.Run source.now workers heap steps
 task_by (commands.Emulate image steps) = tasks.Emulate image.now steps
+task_by (commands.Facts source workers) = tasks.Facts source.now workers
+task_by (commands.Make count workers heap) = tasks.Make count workers heap
 
 abbrev pub read_as : Result Command ℕ → Result Task ℕ
 read_as (Ok command) = Ok (task_by command)
@@ -30,6 +32,11 @@ read_as (Err word) = Err word
 -- each option that is given has a value of its range
 abbrev pub AreFit : Settings → Type 0
 AreFit settings = (setting : Setting) (n : ℕ) → given settings setting ≡ Some n → is_in (range_of setting) n ≡ true
+
+-- a number of threads that may work on a program
+pub record IsWorkable (workers : ℕ) : Type 0 where
+  pub some : 1 ≤ workers
+  pub few : workers ≤ 32
 
 -- a number of workers and a heap that a program may be built with
 pub record IsBuildable (workers heap : ℕ) : Type 0 where
@@ -43,3 +50,5 @@ abbrev pub IsReady : Command → Type 0
 IsReady (commands.Compile source image workers heap) = IsBuildable workers heap
 IsReady (commands.Run source workers heap steps) = IsBuildable workers heap
 IsReady (commands.Emulate image steps) = Unit {0}
+IsReady (commands.Facts source workers) = IsWorkable workers
+IsReady (commands.Make count workers heap) = IsBuildable workers heap

@@ -15,9 +15,11 @@ use Rattle.stalin_outside.specs.Environment.{IsOf}
 use Rattle.stalin_outside.specs.Sending.{Sends}
 use Rattle.stalin_outside.specs.Transcript.{Call, Passes, Shows}
 use Rattle.stalin_top.specs.Answer.{text_of}
-use Rattle.stalin_top.specs.Command.{Task, Compile, Run, Emulate, task_in}
+use Rattle.stalin_top.specs.Command.{Task, Compile, Run, Emulate, Facts, Make, task_in}
 use Rattle.stalin_top.specs.Compile.{Compiles}
 use Rattle.stalin_top.specs.Emulate.{Emulates}
+use Rattle.stalin_top.specs.Facts.{PrintsFacts}
+use Rattle.stalin_top.specs.Make.{PrintsNumbers}
 use Rattle.stalin_top.specs.Outside.{Outside}
 use Rattle.stalin_top.specs.Run.{Runs}
 use Rattle.stalin_top.specs.declared.answer.Answer.{Answer}
@@ -29,6 +31,8 @@ Does (Err word) answer before after = (answer ≡ Usage word) × (after ≡ befo
 Does (Ok (Compile source image workers heap)) answer before after = Compiles source image heap answer before after
 Does (Ok (Run source workers heap steps)) answer before after = Runs source heap steps answer before after
 Does (Ok (Emulate image steps)) answer before after = Emulates image steps answer before after
+Does (Ok (Facts source workers)) answer before after = PrintsFacts source answer before after
+Does (Ok (Make count workers heap)) answer before after = PrintsNumbers count heap answer before after
 
 -- What the words say is done, and a file fault is answered only where a call of the shelf failed. Then the
 -- answer's text is sent to the error channel, up to the first call that fails; nothing else is done.

@@ -2,8 +2,11 @@ pub mod Answer
 pub mod Command
 pub mod Compile
 pub mod Emulate
+pub mod Facts
 pub mod Given
 pub mod Headline
+pub mod Make
 pub mod Outside
 pub mod Run
 pub mod Source
+pub mod TableText

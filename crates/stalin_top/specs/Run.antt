@@ -2,9 +2,7 @@
 --
 -- `IsEmulated` is that bytes are read as an image whose run, under the environments that answer as the console
 -- has done, is what the answer tells when it is cut at so many steps (`Emulate`).
-use Rattle.std.specs.Prelude.{ℕ, ◌≡◌, ◌≢◌, ◌<◌, ◌^◌, ◌⊎◌, List, ◌∷◌, length, Option, Some}
-use Rattle.stalin_outside.specs.declared.shelf.Ask.{Ask}
-use Rattle.stalin_outside.specs.declared.shelf.Ask.TheVariants.{ToRead}
+use Rattle.std.specs.Prelude.{ℕ, ◌≡◌, ◌≢◌, ◌<◌, ◌^◌, ◌⊎◌, List, length, Option, Some}
 use Rattle.stalin_outside.specs.Console.{Told}
 use Rattle.stalin_outside.specs.Shelf.{Files, SameFiles}
 use Rattle.image_build.specs.Emitted.{Refuses}
@@ -13,7 +11,7 @@ use Rattle.image_build.specs.declared.error.BuildErr.TheVariants as build
 use Rattle.stalin_top.specs.Answer.{Yields}
 use Rattle.stalin_top.specs.Emulate.{IsEmulated, IsOfRun}
 use Rattle.stalin_top.specs.Outside.{Outside, IfTold}
-use Rattle.stalin_top.specs.Source.{IsSource, IsBuilt, StopsAs, source_limit}
+use Rattle.stalin_top.specs.Source.{AsksSource, IsSource, IsBuilt, StopsAs, source_limit}
 use Rattle.stalin_top.specs.declared.answer.Answer.{Answer}
 use Rattle.stalin_top.specs.declared.answer.Answer.TheVariants.{TooLarge, FileFault, Spent, Trapped, Image, NoMemory}
 
@@ -43,13 +41,8 @@ pub record Causes (source : List ℕ) (heap : ℕ) (answer : Answer) (files : Fi
       → IsOfRun answer ⊎ (answer ≡ FileFault) ⊎ (answer ≡ NoMemory)
   pub limited : (text : List ℕ) → files source ≡ Some text → 2 ^ 20 < length text → Yields (TooLarge source_limit) answer
 
--- What is asked for: SOURCE, and no other file
-abbrev pub IsAsked : (source : List ℕ) → Answer → (before now : List Ask) → Type 0
-IsAsked source NoMemory before now = (now ≡ before) ⊎ (now ≡ ToRead source ∷ before)
-IsAsked source answer before now = now ≡ ToRead source ∷ before
-
 pub record Runs (source : List ℕ) (heap steps : ℕ) (answer : Answer) (before after : Outside) : Type 0 where
   pub files : SameFiles before.files after.files
   pub outcome : Outcome before.files source heap steps answer before.console after.console
   pub causes : IfTold before.files (Causes source heap answer)
-  pub asks : IsAsked source answer before.asks after.asks
+  pub asks : AsksSource source answer before.asks after.asks

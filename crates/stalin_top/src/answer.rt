@@ -28,6 +28,8 @@ pub enum Answer {
     TooLarge(Limit),
     /// A file could not be read or written.
     FileFault,
+    /// The output did not take all that the command was to print.
+    ConsoleFault,
     /// The bytes of an image file break a check; it is never want of memory.
     BadImage(ElfErr),
     /// The image was emulated for so many steps, and has not ended.
@@ -50,6 +52,7 @@ pub fn status(answer: &Answer) -> u8
         Answer::Refused(_) => 65,
         Answer::TooLarge(_) => 66,
         Answer::FileFault => 74,
+        Answer::ConsoleFault => 73,
         Answer::BadImage(_) => 76,
         Answer::Spent { .. } => 75,
         Answer::Trapped { .. } => 77,

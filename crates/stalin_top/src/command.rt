@@ -4,7 +4,7 @@ ghost use Rattle.std.specs.Option.{option_map};
 ghost use Rattle.stalin_top.specs.Command.{nothing_said, reading, shape_of, setting_of, task_in, task_said, with_operand, with_option, with_value, with_word};
 ghost use Rattle.stalin_top.specs.Given.{AreFit, IsReady, read_as, said_by, task_by};
 
-use crate::shape::{Setting, Settings, Verb, is_operand};
+use crate::shape::{Setting, Settings, Verb, count_in, is_operand};
 use scheme_base::Words;
 
 /// A command with its operands and options.
@@ -28,6 +28,17 @@ pub(crate) enum Command<'a> {
     Emulate {
         image: &'a str,
         steps: u64,
+    },
+    /// Prints what each expression of the source file can be.
+    Facts {
+        source: &'a str,
+        workers: u32,
+    },
+    /// Prints the numbers of a program of so many procedures.
+    Make {
+        count: u64,
+        workers: u32,
+        heap: u64,
     },
 }
 
@@ -179,6 +190,21 @@ impl<'a> Given<'a> {
                 None => Some(Command::Emulate {
                     image: first,
                     steps: self.settings.steps(),
+                }),
+                Some(_) => None,
+            },
+            Verb::Facts => match self.second {
+                None => Some(Command::Facts {
+                    source: first,
+                    workers: self.settings.workers(),
+                }),
+                Some(_) => None,
+            },
+            Verb::Make => match self.second {
+                None => Some(Command::Make {
+                    count: count_in(first)?,
+                    workers: self.settings.workers(),
+                    heap: self.settings.heap(),
                 }),
                 Some(_) => None,
             },

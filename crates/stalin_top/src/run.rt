@@ -2,7 +2,8 @@ ghost use Rattle.std.specs.Prelude.{◌≡◌};
 ghost use Rattle.stalin_outside.specs.Causes.{HasCause};
 ghost use Rattle.stalin_outside.specs.Shelf.{SameFiles};
 ghost use Rattle.stalin_top.specs.Given.{IsBuildable};
-ghost use Rattle.stalin_top.specs.Run.{Outcome, IsAsked};
+ghost use Rattle.stalin_top.specs.Run.{Outcome};
+ghost use Rattle.stalin_top.specs.Source.{AsksSource};
 
 use crate::Answer;
 use crate::emulate::emulate_file;
@@ -27,7 +28,7 @@ pub(crate) fn run<R: AllocGlobal + Threads + Sync, H: Shelf, C: Console, G: Gate
     requires { IsBuildable workers heap }
     ensures files { SameFiles (H.files shelf.old) (H.files shelf.new) }
     ensures outcome { Outcome (H.files shelf.old) source.now heap steps result (C.told console.old) (C.told console.new) }
-    ensures asks { IsAsked source.now result (H.asks shelf.old) (H.asks shelf.new) }
+    ensures asks { AsksSource source.now result (H.asks shelf.old) (H.asks shelf.new) }
     ensures cause { HasCause (H.faults shelf.old) (H.faults shelf.new) (result ≡ Answer.FileFault) }
 {
     match build_source(rt, alloc, shelf, source, workers, heap, gate) {

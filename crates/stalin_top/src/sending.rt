@@ -29,6 +29,7 @@ pub(crate) fn tell<C: Console>(console: &mut C, answer: &Answer) -> bool
             send_all(console, &[b"too large: ", name, b" ", count, b"\n"])
         }
         Answer::FileFault => send(console, b"file fault\n"),
+        Answer::ConsoleFault => true,
         Answer::BadImage(err) => tell_break(console, err),
         Answer::Spent { steps } => {
             let steps = one.format(*steps).as_bytes();

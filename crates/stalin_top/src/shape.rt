@@ -1,7 +1,7 @@
 //! The table of commands: what each one takes.
 ghost use Rattle.std.specs.Prelude.{◌≡◌, ◌≤◌, ◌<◌, ◌%◌, ◌^◌};
 ghost use Rattle.std.specs.Option.{option_copied};
-ghost use Rattle.stalin_top.specs.Command.{default_of, given, is_in, is_operand, number_in, range_of, setting_of, shape_of, takes, value_of, verb_of, with_setting};
+ghost use Rattle.stalin_top.specs.Command.{counts, default_of, given, is_in, is_operand, number_in, range_of, setting_of, shape_of, takes, value_of, verb_of, with_setting};
 ghost use Rattle.stalin_top.specs.Given.{AreFit};
 
 use itoa::Buffer;
@@ -12,6 +12,8 @@ pub(crate) enum Verb {
     Compile,
     Run,
     Emulate,
+    Facts,
+    Make,
 }
 
 /// What an operand is.
@@ -19,6 +21,8 @@ pub(crate) enum Verb {
 pub(crate) enum Operand {
     /// The name of a file.
     File,
+    /// How many procedures are made.
+    Count,
 }
 
 /// Which options a command takes.
@@ -65,6 +69,8 @@ impl Verb {
             "compile" => Some(Verb::Compile),
             "run" => Some(Verb::Run),
             "emulate" => Some(Verb::Emulate),
+            "facts" => Some(Verb::Facts),
+            "make" => Some(Verb::Make),
             _ => None,
         }
     }
@@ -77,6 +83,8 @@ impl Verb {
             Verb::Compile => &[Operand::File, Operand::File],
             Verb::Run => &[Operand::File],
             Verb::Emulate => &[Operand::File],
+            Verb::Facts => &[Operand::File],
+            Verb::Make => &[Operand::Count],
         }
     }
 
@@ -98,6 +106,16 @@ impl Verb {
                 workers: false,
                 heap: false,
                 steps: true,
+            },
+            Verb::Facts => Options {
+                workers: true,
+                heap: false,
+                steps: false,
+            },
+            Verb::Make => Options {
+                workers: true,
+                heap: true,
+                steps: false,
             },
         }
     }
@@ -238,12 +256,27 @@ impl Range {
     }
 }
 
+/// How many procedures may be made.
+const COUNTS: Range = Range {
+    least: 0,
+    most: 1000,
+    multiple: 1,
+};
+
+/// How many procedures a word asks for.
+pub(crate) fn count_in(word: &str) -> Option<u64>
+    ensures { result ≡ number_in counts word.now }
+{
+    COUNTS.number(word)
+}
+
 /// Whether a word can be this operand.
 pub(crate) fn is_operand(operand: Option<&Operand>, word: &str) -> bool
     ensures { result ≡ is_operand (option_copied operand.entry) word.now }
 {
     match operand {
         Some(Operand::File) => !word.is_empty(),
+        Some(Operand::Count) => count_in(word).is_some(),
         None => false,
     }
 }

@@ -1,6 +1,7 @@
 //! Worked examples of whole commands, over a shelf and a console in memory.
 
 mod emulation;
+mod printing;
 
 use crate::{stalin, status};
 use scheme_base::{Bytes, Words};

@@ -9,6 +9,8 @@ use crate::Answer;
 use crate::command::{Command, read_command};
 use crate::compile::compile;
 use crate::emulate::emulate;
+use crate::facts::facts;
+use crate::make::make;
 use crate::run::run;
 use crate::sending::tell;
 use scheme_base::Words;
@@ -21,9 +23,11 @@ use std::thread::Threads;
 ///
 /// `compile SOURCE IMAGE` reads the source in the file SOURCE and writes its image to the file IMAGE. `run SOURCE`
 /// builds the same image and emulates it on the console. `emulate IMAGE` emulates the image in the file IMAGE.
+/// `facts SOURCE` prints which atoms each row of the program holds. `make COUNT` prints how large a program of so
+/// many procedures is, its analysis and its image.
 /// `--workers W` is how many threads may work on a program, `--heap H` how many bytes its heap has, and
-/// `--steps N` how many steps are emulated at most. Nothing but an emulated image reads the console's input or
-/// writes to its output.
+/// `--steps N` how many steps are emulated at most. Nothing but an emulated image reads the console's input, and
+/// nothing else but `facts` and `make` writes to its output.
 pub fn stalin<R: AllocGlobal + Threads + Sync, H: Shelf, C: Console, G: Gate>(
     rt: &R,
     alloc: Global,
@@ -75,5 +79,13 @@ fn run_command<R: AllocGlobal + Threads + Sync, H: Shelf, C: Console, G: Gate>(
             rt, alloc, shelf, console, source, workers, heap, steps, gate,
         ),
         Command::Emulate { image, steps } => emulate(alloc, shelf, console, image, steps),
+        Command::Facts { source, workers } => {
+            facts(rt, alloc, shelf, console, source, workers, gate)
+        }
+        Command::Make {
+            count,
+            workers,
+            heap,
+        } => make(rt, alloc, console, count, workers, heap, gate),
     }
 }

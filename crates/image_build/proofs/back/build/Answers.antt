@@ -1,10 +1,15 @@
 use Rattle.image_build.proofs.Files.{emitted, no_file, no_image}
+use Rattle.image_build.proofs.Refusals.{no_file_of}
 use Rattle.image_build.proofs.back.build.Goals as goal
+
+pub returns-in-Err-clause-refused : goal.returns-in-Err-clause-refused
+returns-in-Err-clause-refused g c = no_file_of c.args.source.now c.args.heap c.in-Err.error c.in-Err.ensures.refused
 
 pub returns-in-Ok-image_of-clause-built : goal.returns-in-Ok-image_of-clause-built
 returns-in-Ok-image_of-clause-built g c =
-    emitted c.file_of.result (λ file. file.items) c.args.source.now c.args.heap c.in_ok-named.named c.in-Ok.flat
-    c.in-Ok-image_of.image c.in_ok-named.ensures.read c.in-Ok.ensures c.in-Ok-image_of.ensures.image c.file_of.ensures.written
+    emitted c.file_of.result (λ file. file.items) c.args.source.now c.args.heap c.in-Ok.named c.in-Ok-flat_of.flat
+    c.in-Ok-image_of.image c.in-Ok.ensures.read c.in-Ok.ensures.few c.in-Ok-flat_of.ensures c.in-Ok-image_of.ensures.image
+    c.file_of.ensures.written
 
 pub returns-in-Ok-image_of-clause-refused : goal.returns-in-Ok-image_of-clause-refused
 returns-in-Ok-image_of-clause-refused g c =
@@ -12,5 +17,5 @@ returns-in-Ok-image_of-clause-refused g c =
 
 pub returns-clause-refused : goal.returns-clause-refused
 returns-clause-refused g c =
-    no_image c.args.source.now c.args.heap c.in_ok-named.named c.in-Ok.flat c.in-Err.error c.limit_error.result
-    c.in_ok-named.ensures.read c.in-Ok.ensures c.in-Err.ensures.limit c.limit_error.ensures
+    no_image c.args.source.now c.args.heap c.in-Ok.named c.in-Ok-flat_of.flat c.in-Err-image_of.error c.limit_error.result
+    c.in-Ok.ensures.read c.in-Ok-flat_of.ensures c.in-Err-image_of.ensures.limit c.limit_error.ensures
