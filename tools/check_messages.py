@@ -15,7 +15,7 @@ import sys
 import tempfile
 
 TOP = pathlib.Path(__file__).resolve().parent.parent
-LIMITS = ["source", "nesting", "depth", "image", "file"]
+LIMITS = ["source", "nesting", "depth", "rows", "atoms", "table", "rules", "image", "file"]
 OTHERS = ["usage", "no memory", "file fault", "spent", "storage", "io"]
 
 
