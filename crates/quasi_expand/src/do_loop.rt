@@ -1,5 +1,12 @@
 //! `do` (R4RS 4.2.4).
 
+ghost use Rattle.std.specs.Prelude.{◌≡◌, Some, None, if◌then◌else◌};
+ghost use Rattle.datum_form.specs.Data.{Datum, Items};
+ghost use Rattle.datum_form.specs.Stands.{Stands, StandAll};
+ghost use Rattle.quasi_expand.specs.Agreement.{Agree};
+ghost use Rattle.quasi_expand.specs.Loops.{IsDo, IsStep, do_of, step_of};
+ghost use Rattle.quasi_expand.specs.Shapes.{all_items, is_step, is_name as names};
+
 use crate::shape::{is_name, list_items};
 use datum_form::Node;
 
@@ -21,32 +28,63 @@ pub struct DoBinding {
 }
 
 /// The parts of a `do` with these items, if it has bindings, each of which is one, and a test clause.
-pub fn read_do<'a>(nodes: &'a [Node], items: &'a [u32]) -> Option<DoLoop<'a>> {
-    let [_, bindings, clause, commands @ ..] = items else {
-        return None;
-    };
-    let bindings = list_items(nodes, *bindings)?;
-    for binding in bindings {
-        do_binding(nodes, *binding)?;
+pub fn read_do<'a>(nodes: &'a [Node], items: &'a [u32]) -> Option<DoLoop<'a>>
+    ensures { (ds : Items) → StandAll nodes.now items.now ds → Agree (IsDo nodes.now) result (do_of ds) }
+{
+    match items {
+        [_, bindings, clause, commands @ ..] => {
+            match (list_items(nodes, *bindings), list_items(nodes, *clause)) {
+                (Some(bindings), Some([test, results @ ..])) => {
+                    if each_is_binding(nodes, bindings) {
+                        Some(DoLoop {
+                            bindings,
+                            test: *test,
+                            results,
+                            commands,
+                        })
+                    } else {
+                        None
+                    }
+                }
+                _ => None,
+            }
+        }
+        _ => None,
     }
-    let (test, results) = list_items(nodes, *clause)?.split_first()?;
-    Some(DoLoop {
-        bindings,
-        test: *test,
-        results,
-        commands,
-    })
+}
+
+/// Whether these are bindings.
+fn each_is_binding(nodes: &[Node], bindings: &[u32]) -> bool
+    ensures { (ds : Items) → StandAll nodes.now bindings.now ds → result ≡ all_items is_step ds }
+{
+    let mut rest = bindings;
+    while let Some((binding, others)) = rest.split_first() {
+        if do_binding(nodes, *binding).is_none() {
+            return false;
+        }
+        rest = others;
+    }
+    true
 }
 
 /// The parts of a binding.
-pub fn do_binding(nodes: &[Node], binding: u32) -> Option<DoBinding> {
-    let (name, init, step) = match list_items(nodes, binding)? {
-        [name, init] => (*name, *init, None),
-        [name, init, step] => (*name, *init, Some(*step)),
-        _ => return None,
-    };
-    if !is_name(nodes, name) {
-        return None;
+pub fn do_binding(nodes: &[Node], binding: u32) -> Option<DoBinding>
+    ensures { (d : Datum) → Stands nodes.now binding d → Agree (IsStep nodes.now) result (step_of d) }
+{
+    match list_items(nodes, binding) {
+        Some([name, init]) => binding_of(nodes, *name, *init, None),
+        Some([name, init, step]) => binding_of(nodes, *name, *init, Some(*step)),
+        _ => None,
     }
-    Some(DoBinding { name, init, step })
+}
+
+/// The binding of a variable, if it is a name.
+fn binding_of(nodes: &[Node], name: u32, init: u32, step: Option<u32>) -> Option<DoBinding>
+    ensures { (d : Datum) → Stands nodes.now name d → result ≡ (if names d then Some (record { name = name; init = init; step = step }) else None) }
+{
+    if is_name(nodes, name) {
+        Some(DoBinding { name, init, step })
+    } else {
+        None
+    }
 }

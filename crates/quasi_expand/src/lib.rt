@@ -2,6 +2,9 @@
 //! quasiquote (R4RS 4.2.1, 4.2.4 and 4.2.6).
 //!
 //! A shape says which parts of a form are what; what the form means is said by whoever rewrites it.
+//! `specs/Shapes` says which data are the clauses of a `case` and the bindings of a `do`, `specs/Cases` and
+//! `specs/Loops` what their parts are: what is read from nodes is exactly that, and nothing where there is
+//! none (`specs/Agreement`).
 #![tactic(auto)]
 
 mod case;

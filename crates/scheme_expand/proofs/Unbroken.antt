@@ -14,7 +14,8 @@ use Rattle.datum_form.specs.Data.Datum.{Single, Chain, Dotted, Row}
 use Rattle.datum_form.specs.Data.Items.{none, item}
 use Rattle.datum_form.specs.Words.{is_name, is_ordinary, is_initial}
 use Rattle.scheme_expand.specs.Forms.{Word, Exp, Exps, Bindings, Body, Clauses, Cases, Steps, Template, Forms, Wrong, Value, Variable, Application, Procedure, OneArmed, TwoArmed, Assignment, Cond, Case, And, Or, Let, LetStar, Letrec, Do, Named, no_exp, exp, no_binding, binding, broken, Of, no_clause, value, clause, passing, no_case, one_of, fixed, stepped, Plain, Unquoted, Spliced, Pair, Vector, evaluated, defining}
-use Rattle.scheme_expand.specs.Grammar.{atom, constant, constant_list, constants, each_constant, word, is_word, is_name as names_it, are_names, word_of, words, twice, are_formals, params_of, rest_of, is_binding, is_step, is_list_of, is_none, is_list, passes, is_clause, is_case, are_clauses, is_definition, one_is_define, is_no_body, Check, rule, checked, bound_words, defines_twice, step_words, and_rest, procedure, lambda_of, binding_of, let_of, named_of, letrec_of, let_star_of, do_of, procedure_binding, after_bindings, cond_clause, case_clause, is_arrow, couple, row, marked, unquoted, spliced, form, quote_form, expr, exprs, lambda_form, if_form, set_form, begin_form, case_form, let_form, let_star_form, letrec_form, do_form, quasi_form, clauses, clause_before, cases, case_before, bindings, binding_list, binding_before, steps, step_list, step_before, body, definitions_before, each_definition, definition, template, template_list, templates_before, template_before, forms}
+use Rattle.quasi_expand.specs.Shapes.{is_word, is_name as names_it, is_step, is_list_of, is_none, is_list, is_case, are_clauses}
+use Rattle.scheme_expand.specs.Grammar.{atom, constant, constant_list, constants, each_constant, word, are_names, word_of, words, twice, are_formals, params_of, rest_of, is_binding, passes, is_clause, is_definition, one_is_define, is_no_body, Check, rule, checked, bound_words, defines_twice, step_words, and_rest, procedure, lambda_of, binding_of, let_of, named_of, letrec_of, let_star_of, do_of, procedure_binding, after_bindings, cond_clause, case_clause, is_arrow, couple, row, marked, unquoted, spliced, form, quote_form, expr, exprs, lambda_form, if_form, set_form, begin_form, case_form, let_form, let_star_form, letrec_form, do_form, quasi_form, clauses, clause_before, cases, case_before, bindings, binding_list, binding_before, steps, step_list, step_before, body, definitions_before, each_definition, definition, template, template_list, templates_before, template_before, forms}
 use Rattle.scheme_expand.specs.Faults.{Fault, fault, in_word, in_words, in_exp, in_exps, in_bindings, in_body, in_clauses, in_cases, in_steps, in_template, in_forms}
 use Rattle.scheme_expand.specs.Inputs.{IsAtom, IsInput, AreInputs}
 use Rattle.scheme_expand.specs.Rewriting.{names}

@@ -32,6 +32,7 @@ use Rattle.datum_form.specs.Syntax.Atom.{Integer, Boolean, Character, Text, Name
 use Rattle.datum_form.specs.Data.{Datum, Items}
 use Rattle.datum_form.specs.Data.Datum.{Single, Chain, Dotted, Row}
 use Rattle.datum_form.specs.Data.Items.{none, item}
+use Rattle.quasi_expand.specs.Shapes.{are_clauses, is_case, is_list_of, is_name, is_none, is_step, is_word}
 use Rattle.scheme_expand.specs.Forms.{Word, Exp, Exps, Bindings, Body, Clauses, Cases, Steps, Template, Forms, Wrong, Value, Variable, Application, Procedure, OneArmed, TwoArmed, Assignment, Cond, Case, And, Or, Let, LetStar, Letrec, Begin, Do, Named, Quasi, no_exp, exp, no_binding, binding, broken, Of, no_clause, otherwise, value, clause, passing, no_case, others, one_of, no_step, fixed, stepped, Plain, Unquoted, Spliced, Pair, Vector, no_form, evaluated, defining}
 
 -- Literals
@@ -67,15 +68,6 @@ each_constant (item d ds) = constant d ∷ each_constant ds
 
 abbrev pub word : Pos → List ℕ → Word
 word p x = record { place = p; name = x }
-
-abbrev pub is_name : Datum → Bool
-is_name (Single p (Name x)) = true
-is_name d = false
-
--- the datum is this word
-abbrev pub is_word : List ℕ → Datum → Bool
-is_word x (Single p (Name y)) = bytes_eq y x
-is_word x d = false
 
 abbrev pub word_of : Datum → Option Word
 word_of (Single p (Name x)) = Some (word p x)
@@ -123,30 +115,6 @@ abbrev pub is_binding : Datum → Bool
 is_binding (Chain p (item (Single q (Name x)) (item e none))) = true
 is_binding d = false
 
--- a name, an expression, and perhaps another
-abbrev pub is_step : Datum → Bool
-is_step (Chain p (item (Single q (Name x)) (item e none))) = true
-is_step (Chain p (item (Single q (Name x)) (item e (item f none)))) = true
-is_step d = false
-
-abbrev pub all_items : (Datum → Bool) → Items → Bool
-all_items test none = true
-all_items test (item d ds) = test d && all_items test ds
-
--- a list of such data
-abbrev pub is_list_of : (Datum → Bool) → Datum → Bool
-is_list_of test (Chain p is) = all_items test is
-is_list_of test d = false
-
-abbrev pub is_none : Items → Bool
-is_none none = true
-is_none ds = false
-
--- a list, perhaps empty
-abbrev pub is_list : Datum → Bool
-is_list (Chain p is) = true
-is_list d = false
-
 -- the items after the first of a clause are `=>` and one expression, if `=>` is there
 abbrev pub passes : Items → Bool
 passes (item d none) = not (is_word (codes "=>") d)
@@ -159,17 +127,6 @@ abbrev pub is_clause : (last : Bool) → Datum → Bool
 is_clause last (Chain p (item d ds)) =
     if is_word (codes "else") d then last && not (is_none ds) else passes ds
 is_clause last d = false
-
--- a clause of a `case`, the last one or not
-abbrev pub is_case : (last : Bool) → Datum → Bool
-is_case last (Chain p (item d ds)) = (is_list d || last && is_word (codes "else") d) && not (is_none ds)
-is_case last d = false
-
--- at least one clause, each in its shape
-abbrev pub are_clauses : (shape : Bool → Datum → Bool) → Items → Bool
-are_clauses shape none = false
-are_clauses shape (item d none) = shape true d
-are_clauses shape (item d (item e ds)) = shape false d && are_clauses shape (item e ds)
 
 -- a definition, broken or not
 abbrev pub is_define : Datum → Bool

@@ -39,8 +39,6 @@ mod program;
 mod scope;
 mod source;
 mod step;
-#[cfg(test)]
-mod tests;
 mod words;
 
 pub use answer::expand;

@@ -1,0 +1,3 @@
+mod EachIsAClause
+mod EachIsABinding
+mod FirstItem

@@ -1,0 +1,19 @@
+-- The lists and the names among kinds of nodes.
+use Rattle.std.specs.Prelude.{ℕ, List, Option, Some, None}
+use Rattle.datum_form.specs.declared.datums.Kind.{Kind}
+use Rattle.datum_form.specs.declared.datums.Kind.TheVariants as kind
+use Rattle.datum_form.specs.Syntax.Atom.{Name}
+use Rattle.datum_form.specs.Data.{Datum}
+use Rattle.datum_form.specs.Data.Datum.{Single}
+
+abbrev pub list_kind : Kind → Option (List ℕ)
+list_kind (kind.List ids None) = Some ids
+list_kind k = None
+
+abbrev pub name_kind : Kind → Option (List ℕ)
+name_kind (kind.Name bytes) = Some bytes
+name_kind k = None
+
+abbrev pub name_of : Datum → Option (List ℕ)
+name_of (Single p (Name x)) = Some x
+name_of d = None
