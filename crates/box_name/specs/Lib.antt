@@ -1,4 +1,10 @@
+pub mod Cores
 pub mod Counts
+pub mod Finding
+pub mod Fitting
 pub mod Naming
+pub mod Procedures
+pub mod Steps
+pub mod Sureness
 pub mod Told
 pub mod Whole

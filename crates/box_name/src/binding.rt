@@ -1,3 +1,13 @@
+ghost use Rattle.std.specs.Prelude.{◌≡◌, ℕ, ◌∷◌, [], nat_eq, Some, IfOk, OnOk};
+ghost use Rattle.core_form.specs.declared.program.VarRef.{VarRef as Ref};
+ghost use Rattle.core_form.specs.Trees.{Tree, Trees, Stands, StandAll};
+ghost use Rattle.indexmap.specs.IndexMap.{get};
+ghost use Rattle.named_form.specs.Written.{act_of};
+ghost use Rattle.box_name.specs.Fitting.{Fits};
+ghost use Rattle.box_name.specs.Naming.{Setting};
+ghost use Rattle.box_name.specs.Steps.{Binds, Notes, NotesVars, PutsFix, PutsOne, Settles, Takes, TakesProc, TakesProcs};
+ghost use Rattle.box_name.specs.Told.{told, all_told, number, numbers};
+
 use crate::facts::Stand;
 use crate::namer::Namer;
 use core_form::VarRef;
@@ -7,7 +17,9 @@ use std::alloc::AllocError;
 
 impl Namer {
     /// The next variable.
-    pub(crate) fn fresh(&mut self) -> Result<u32, AllocError> {
+    pub(crate) fn fresh(&mut self) -> Result<u32, AllocError>
+        ensures { IfOk result (λ var. Takes self.old self.new var) }
+    {
         let var = self.next_var;
         let Some(next) = var.checked_add(1) else {
             return Err(AllocError);
@@ -23,7 +35,9 @@ impl Namer {
         act: Act,
         pos: Pos,
         steps: &mut Vec<Step>,
-    ) -> Result<u32, AllocError> {
+    ) -> Result<u32, AllocError>
+        ensures { IfOk result (λ same. PutsOne self.old self.new steps.old.items steps.new.items pos var (act_of act) same) }
+    {
         let vars = Ids::from_slice(self.alloc, [var].as_slice())?;
         steps.push(Step { vars, act, pos })?;
         Ok(var)
@@ -35,21 +49,30 @@ impl Namer {
         act: Act,
         pos: Pos,
         steps: &mut Vec<Step>,
-    ) -> Result<u32, AllocError> {
+    ) -> Result<u32, AllocError>
+        ensures { IfOk result (λ var. Binds self.old self.new steps.old.items steps.new.items pos (act_of act) var) }
+    {
         let var = self.fresh()?;
         self.put(var, act, pos, steps)
     }
 
     /// The variable of a local variable, or its box.
-    pub(crate) fn local(&self, number: u32) -> Result<u32, AllocError> {
+    pub(crate) fn local(&self, number: u32) -> Result<u32, AllocError>
+        ensures { IfOk result (λ var. get nat_eq self.now.vars number ≡ Some var) }
+    {
         match self.vars.get(&number) {
             Some(var) => Ok(*var),
             None => Err(AllocError),
         }
     }
 
-    /// Notes the variable of a local variable, or its box.
-    pub(crate) fn place(&mut self, number: u32, var: u32) -> Result<(), AllocError> {
+    /// Notes the variable of a local variable, or its box. A local variable is bound at one place.
+    pub(crate) fn place(&mut self, number: u32, var: u32) -> Result<(), AllocError>
+        ensures { OnOk result (Notes self.old self.new ((number, var) ∷ []) self.old.next_var self.old.next_proc) }
+    {
+        if self.vars.get(&number).is_some() {
+            return Err(AllocError);
+        }
         self.vars.insert(number, var)?;
         Ok(())
     }
@@ -59,7 +82,9 @@ impl Namer {
         &mut self,
         stand: Stand<'a, 'f>,
         lambda: u32,
-    ) -> Result<u32, AllocError> {
+    ) -> Result<u32, AllocError>
+        ensures { IfOk result (λ proc. (e : Tree Ref) → Stands stand.entry.core.now.exprs lambda e → (s : Setting) → Fits stand.entry s → TakesProc self.old self.new (told stand.entry.core.now.lits e) proc) }
+    {
         let proc = self.next_proc;
         let inside = stand.inside(lambda)?;
         let Some(after) = proc.checked_add(1) else {
@@ -80,7 +105,9 @@ impl Namer {
         var: u32,
         pos: Pos,
         steps: &mut Vec<Step>,
-    ) -> Result<(), AllocError> {
+    ) -> Result<(), AllocError>
+        ensures { OnOk result ((s : Setting) → Fits stand.entry s → (n p : ℕ) → Settles s n p self.old self.new steps.old.items steps.new.items pos (number param.now) var) }
+    {
         let VarRef::Local(number) = param else {
             return Err(AllocError);
         };
@@ -100,7 +127,9 @@ impl Namer {
         lambdas: &'a Ids,
         pos: Pos,
         steps: &mut Vec<Step>,
-    ) -> Result<(), AllocError> {
+    ) -> Result<(), AllocError>
+        ensures { OnOk result ((ls : Trees Ref) → StandAll stand.entry.core.now.exprs lambdas.now ls → (s : Setting) → Fits stand.entry s → (n p : ℕ) → PutsFix s n p self.old self.new steps.old.items steps.new.items pos (numbers vars.now) (all_told stand.entry.core.now.lits ls)) }
+    {
         let vars = self.fix_vars(vars)?;
         let procs = self.fix_procs(stand, lambdas)?;
         let act = Act::Fix { procs };
@@ -108,7 +137,9 @@ impl Namer {
         Ok(())
     }
 
-    fn fix_vars(&mut self, vars: &List<VarRef>) -> Result<Ids, AllocError> {
+    fn fix_vars(&mut self, vars: &List<VarRef>) -> Result<Ids, AllocError>
+        ensures { IfOk result (λ bound. NotesVars self.old self.new (numbers vars.now) bound) }
+    {
         let mut bound = Ids::new(self.alloc);
         let mut left = vars.as_slice();
         while let Some((var, others)) = left.split_first() {
@@ -127,7 +158,9 @@ impl Namer {
         &mut self,
         stand: Stand<'a, 'f>,
         lambdas: &'a Ids,
-    ) -> Result<Ids, AllocError> {
+    ) -> Result<Ids, AllocError>
+        ensures { IfOk result (λ procs. (ls : Trees Ref) → StandAll stand.entry.core.now.exprs lambdas.now ls → (s : Setting) → Fits stand.entry s → TakesProcs self.old self.new (all_told stand.entry.core.now.lits ls) procs) }
+    {
         let mut procs = Ids::new(self.alloc);
         let mut left = lambdas.as_slice();
         while let Some((lambda, others)) = left.split_first() {

@@ -1,3 +1,12 @@
+ghost use Rattle.std.specs.Prelude.{ℕ, None, IfOk, OnOk};
+ghost use Rattle.core_form.specs.declared.program.VarRef.{VarRef as Ref};
+ghost use Rattle.core_form.specs.Trees.{Tree, Trees, Call, Lambda, Stands, StandAll};
+ghost use Rattle.scheme_base.specs.declared.pos.Pos.{Pos as Position};
+ghost use Rattle.box_name.specs.Fitting.{Fits};
+ghost use Rattle.box_name.specs.Naming.{Setting};
+ghost use Rattle.box_name.specs.Steps.{Does, DoesOperand, DoesOperands, BindsParam, BindsParams};
+ghost use Rattle.box_name.specs.Told.{Direct as DirectCall, told, told_operands, number, numbers};
+
 use crate::direct::{Direct, direct_lambda, is_hole};
 use crate::facts::Stand;
 use crate::namer::Namer;
@@ -16,7 +25,9 @@ impl Namer {
         pos: Pos,
         deep: u32,
         steps: &mut Vec<Step>,
-    ) -> Result<u32, AllocError> {
+    ) -> Result<u32, AllocError>
+        ensures { IfOk result (λ v. (f : Tree Ref) (es : Trees Ref) → Stands stand.entry.core.now.exprs operator f → StandAll stand.entry.core.now.exprs operands.now es → Does stand.entry self.old self.new steps.old.items steps.new.items (told stand.entry.core.now.lits (Call pos f es)) v) }
+    {
         match direct_lambda(stand.core, operator, operands.len()) {
             Some(lambda) => self.name_direct(stand, operator, lambda, operands, pos, deep, steps),
             None => {
@@ -39,7 +50,9 @@ impl Namer {
         pos: Pos,
         deep: u32,
         steps: &mut Vec<Step>,
-    ) -> Result<u32, AllocError> {
+    ) -> Result<u32, AllocError>
+        ensures { IfOk result (λ v. (q : Position) (b : Tree Ref) (es : Trees Ref) → Stands stand.entry.core.now.exprs operator (Lambda q lambda.entry.params.now None b) → Stands stand.entry.core.now.exprs lambda.entry.body b → StandAll stand.entry.core.now.exprs operands.now es → Does stand.entry self.old self.new steps.old.items steps.new.items (DirectCall pos (numbers lambda.entry.params.now) (told stand.entry.core.now.lits b) (told_operands stand.entry.core.now.lits es)) v) }
+    {
         if deep == 0 {
             return Err(AllocError);
         }
@@ -66,7 +79,9 @@ impl Namer {
         operands: &'a Ids,
         deep: u32,
         steps: &mut Vec<Step>,
-    ) -> Result<Vec<Option<u32>>, AllocError> {
+    ) -> Result<Vec<Option<u32>>, AllocError>
+        ensures { IfOk result (λ vs. DoesOperands stand.entry self.old self.new steps.old.items steps.new.items operands.now vs.items) }
+    {
         let mut values = Vec::new(self.alloc);
         let mut left = operands.as_slice();
         while let Some((operand, others)) = left.split_first() {
@@ -83,7 +98,9 @@ impl Namer {
         operand: u32,
         deep: u32,
         steps: &mut Vec<Step>,
-    ) -> Result<Option<u32>, AllocError> {
+    ) -> Result<Option<u32>, AllocError>
+        ensures { IfOk result (λ v. DoesOperand stand.entry self.old self.new steps.old.items steps.new.items operand v) }
+    {
         if is_hole(stand.core, operand) {
             Ok(None)
         } else {
@@ -99,12 +116,14 @@ impl Namer {
         values: &[Option<u32>],
         pos: Pos,
         steps: &mut Vec<Step>,
-    ) -> Result<(), AllocError> {
+    ) -> Result<(), AllocError>
+        ensures { OnOk result ((s : Setting) → Fits stand.entry s → (n p : ℕ) → BindsParams s n p self.old self.new steps.old.items steps.new.items pos (numbers params.now) values.now) }
+    {
         let mut params = params.as_slice();
         let mut values = values;
         while let Some((param, other_params)) = params.split_first() {
             let Some((value, other_values)) = values.split_first() else {
-                break;
+                return Ok(());
             };
             self.bind_param(stand, param, *value, pos, steps)?;
             params = other_params;
@@ -120,7 +139,9 @@ impl Namer {
         value: Option<u32>,
         pos: Pos,
         steps: &mut Vec<Step>,
-    ) -> Result<(), AllocError> {
+    ) -> Result<(), AllocError>
+        ensures { OnOk result ((s : Setting) → Fits stand.entry s → (n p : ℕ) → BindsParam s n p self.old self.new steps.old.items steps.new.items pos (number param.now) value) }
+    {
         match value {
             Some(from) => {
                 let var = self.bind(Act::Copy { from }, pos, steps)?;

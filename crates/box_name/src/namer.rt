@@ -1,3 +1,11 @@
+ghost use Rattle.std.specs.Prelude.{◌≡◌, [], IfOk};
+ghost use Rattle.core_form.specs.declared.program.VarRef.{VarRef as Name};
+ghost use Rattle.core_form.specs.Trees.{Tree, If, Stands};
+ghost use Rattle.named_form.specs.Written.{act_of};
+ghost use Rattle.box_name.specs.Naming.{operation as deed};
+ghost use Rattle.box_name.specs.Steps.{Does, DoesArm, DoesLast, DoesNode, DoesNodes, IsLambdaAt, last_of as last_value};
+ghost use Rattle.box_name.specs.Told.{Define as DefineAs, assignment, reference, told, top_name};
+
 use crate::facts::Stand;
 use core_form::{VarRef, What};
 use indexmap::IndexMap;
@@ -19,7 +27,11 @@ pub(crate) struct Namer {
 }
 
 impl Namer {
-    pub(crate) fn new(alloc: Global) -> Namer {
+    pub(crate) fn new(alloc: Global) -> Namer
+        ensures entries { result.vars.entries ≡ [] }
+        ensures next_var { result.next_var ≡ 0 }
+        ensures next_proc { result.next_proc ≡ 1 }
+    {
         Namer {
             alloc,
             vars: IndexMap::new(alloc),
@@ -36,7 +48,9 @@ impl Namer {
         expr: u32,
         deep: u32,
         steps: &mut Vec<Step>,
-    ) -> Result<u32, AllocError> {
+    ) -> Result<u32, AllocError>
+        ensures { IfOk result (λ v. DoesNode stand.entry self.old self.new steps.old.items steps.new.items expr v) }
+    {
         if deep == 0 {
             return Err(AllocError);
         }
@@ -86,7 +100,9 @@ impl Namer {
         var: &'a VarRef,
         pos: Pos,
         steps: &mut Vec<Step>,
-    ) -> Result<u32, AllocError> {
+    ) -> Result<u32, AllocError>
+        ensures { IfOk result (λ v. Does stand.entry self.old self.new steps.old.items steps.new.items (reference pos var.now) v) }
+    {
         match var {
             VarRef::Local(number) => {
                 let local = self.local(*number)?;
@@ -118,7 +134,9 @@ impl Namer {
         expr: u32,
         pos: Pos,
         steps: &mut Vec<Step>,
-    ) -> Result<u32, AllocError> {
+    ) -> Result<u32, AllocError>
+        ensures { IfOk result (λ v. (e : Tree Name) → Stands stand.entry.core.now.exprs expr e → IsLambdaAt pos e → Does stand.entry self.old self.new steps.old.items steps.new.items (told stand.entry.core.now.lits e) v) }
+    {
         let proc = self.procedure(stand, expr)?;
         self.bind(Act::Closure { proc }, pos, steps)
     }
@@ -133,7 +151,9 @@ impl Namer {
         pos: Pos,
         deep: u32,
         steps: &mut Vec<Step>,
-    ) -> Result<u32, AllocError> {
+    ) -> Result<u32, AllocError>
+        ensures { IfOk result (λ v. (a b c : Tree Name) → Stands stand.entry.core.now.exprs test a → Stands stand.entry.core.now.exprs yes b → Stands stand.entry.core.now.exprs no c → Does stand.entry self.old self.new steps.old.items steps.new.items (told stand.entry.core.now.lits (If pos a b c)) v) }
+    {
         let test = self.name_expr(stand, test, deep, steps)?;
         let var = self.fresh()?;
         let yes = self.name_arm(stand, yes, deep)?;
@@ -148,7 +168,9 @@ impl Namer {
         stand: Stand<'a, 'f>,
         expr: u32,
         deep: u32,
-    ) -> Result<Block, AllocError> {
+    ) -> Result<Block, AllocError>
+        ensures { IfOk result (λ block. DoesArm stand.entry self.old self.new expr block) }
+    {
         let mut steps = Vec::new(self.alloc);
         let value = self.name_expr(stand, expr, deep, &mut steps)?;
         Ok(Block {
@@ -165,7 +187,9 @@ impl Namer {
         from: u32,
         pos: Pos,
         steps: &mut Vec<Step>,
-    ) -> Result<u32, AllocError> {
+    ) -> Result<u32, AllocError>
+        ensures { IfOk result (λ v. DoesLast stand.entry self.old self.new steps.old.items steps.new.items from (assignment pos var.now) v) }
+    {
         match var {
             VarRef::Local(number) => {
                 let boxed = self.local(*number)?;
@@ -187,7 +211,9 @@ impl Namer {
         from: u32,
         pos: Pos,
         steps: &mut Vec<Step>,
-    ) -> Result<u32, AllocError> {
+    ) -> Result<u32, AllocError>
+        ensures { IfOk result (λ v. DoesLast stand.entry self.old self.new steps.old.items steps.new.items from (DefineAs pos (top_name var.now)) v) }
+    {
         match var {
             VarRef::Local(_) => Err(AllocError),
             VarRef::Top(var) => {
@@ -205,7 +231,9 @@ impl Namer {
         exprs: &'a Ids,
         deep: u32,
         steps: &mut Vec<Step>,
-    ) -> Result<Ids, AllocError> {
+    ) -> Result<Ids, AllocError>
+        ensures { IfOk result (λ vs. DoesNodes stand.entry self.old self.new steps.old.items steps.new.items exprs.now vs) }
+    {
         let mut values = Ids::new(self.alloc);
         let mut left = exprs.as_slice();
         while let Some((expr, others)) = left.split_first() {
@@ -217,7 +245,9 @@ impl Namer {
 }
 
 /// What the step of an operation does with its operands.
-fn operation(op: Op, operands: Ids) -> Act {
+fn operation(op: Op, operands: Ids) -> Act
+    ensures { act_of result ≡ deed op operands }
+{
     match (op, operands.as_slice()) {
         (Op::Apply, [operator, list]) => Act::Apply {
             operator: *operator,
@@ -231,9 +261,11 @@ fn operation(op: Op, operands: Ids) -> Act {
 }
 
 /// The last of some values. A sequence has an item.
-fn last_of(values: &Ids) -> u32 {
-    match values.as_slice() {
-        [.., last] => *last,
-        [] => 0,
+fn last_of(values: &Ids) -> u32
+    ensures { result ≡ last_value 0 values.now }
+{
+    match values.as_slice().split_last() {
+        Some((last, _)) => *last,
+        None => 0,
     }
 }

@@ -1,3 +1,12 @@
+ghost use Rattle.std.specs.Prelude.{◌≡◌, IfOk};
+ghost use Rattle.core_form.specs.declared.program.VarRef.{VarRef as Ref};
+ghost use Rattle.core_form.specs.Trees.{Trees, Holds};
+ghost use Rattle.named_form.specs.Written.{form};
+ghost use Rattle.box_name.specs.Fitting.{KnowsProgram};
+ghost use Rattle.box_name.specs.Procedures.{AreNamed};
+ghost use Rattle.box_name.specs.Told.{all_told};
+ghost use Rattle.box_name.specs.Whole.{named};
+
 use crate::facts::Facts;
 use crate::namer::Namer;
 use alpha_core::copy_lits;
@@ -8,18 +17,19 @@ use std::alloc::{AllocError, Global};
 /// The greatest depth of a renamed core.
 const MOST: u32 = 4000;
 
-/// The named form of a renamed core. A core that is deeper than 4,000 is refused as want of memory.
-pub fn name(alloc: Global, core: &Renamed) -> Result<Named, AllocError> {
+/// The named form of a renamed core. A core that is deeper than 4,000, one that binds a local variable at two
+/// places and one that defines a local variable are refused as want of memory.
+pub fn name(alloc: Global, core: &Renamed) -> Result<Named, AllocError>
+    ensures { IfOk result (λ made. (forms : Trees Ref) → Holds core.now forms → form made ≡ named (all_told core.now.lits forms) core.now.lits) }
+{
     let facts = Facts::new(alloc, core, MOST)?;
     name_known(alloc, core, &facts)
 }
 
 /// The named form of a core of which this is known.
-fn name_known<'a>(
-    alloc: Global,
-    core: &'a Renamed,
-    facts: &Facts<'a>,
-) -> Result<Named, AllocError> {
+fn name_known<'a>(alloc: Global, core: &'a Renamed, facts: &Facts<'a>) -> Result<Named, AllocError>
+    ensures { IfOk result (λ made. (forms : Trees Ref) → Holds core.now forms → KnowsProgram core.now facts.now (all_told core.now.lits forms) → form made ≡ named (all_told core.now.lits forms) core.now.lits) }
+{
     let tops = facts.tops()?;
     let procs = name_all(alloc, core, facts)?;
     let lits = copy_lits(alloc, &core.lits)?;
@@ -27,7 +37,9 @@ fn name_known<'a>(
 }
 
 /// Its procedures. The program is procedure 0.
-fn name_all<'a>(alloc: Global, core: &'a Renamed, facts: &Facts<'a>) -> Result<Procs, AllocError> {
+fn name_all<'a>(alloc: Global, core: &'a Renamed, facts: &Facts<'a>) -> Result<Procs, AllocError>
+    ensures { IfOk result (λ procs. (forms : Trees Ref) → Holds core.now forms → KnowsProgram core.now facts.now (all_told core.now.lits forms) → AreNamed procs (all_told core.now.lits forms)) }
+{
     let mut namer = Namer::new(alloc);
     let program = namer.name_program(core, facts, MOST)?;
     let mut procs = Procs::new(alloc);

@@ -1,3 +1,14 @@
+ghost use Rattle.std.specs.Prelude.{◌≡◌, ℕ, List, [], ◌∷◌, length, Some, IfOk, OnOk};
+ghost use Rattle.core_form.specs.declared.program.VarRef.{VarRef as Ref};
+ghost use Rattle.core_form.specs.Trees.{Tree, Trees, Holds, Stands};
+ghost use Rattle.named_form.specs.Valid.{numbers_from};
+ghost use Rattle.box_name.specs.Counts.{all_params};
+ghost use Rattle.box_name.specs.Fitting.{Fits, KnowsAll};
+ghost use Rattle.box_name.specs.Finding.{ArePlaced};
+ghost use Rattle.box_name.specs.Naming.{Setting, rest_var};
+ghost use Rattle.box_name.specs.Procedures.{NamesForms, NamesProc, NamesProcs, NamesProgram, SettlesAll, TakesRest, TakesVars};
+ghost use Rattle.box_name.specs.Told.{Expr, Exprs, told, all_told, number, numbers, option_number};
+
 use crate::facts::{Facts, Stand};
 use crate::namer::Namer;
 use crate::survey::Origin;
@@ -14,7 +25,9 @@ impl Namer {
         core: &'a Renamed,
         facts: &'f Facts<'a>,
         deep: u32,
-    ) -> Result<Proc, AllocError> {
+    ) -> Result<Proc, AllocError>
+        ensures { IfOk result (λ proc. (forms : Trees Ref) → Holds core.now forms → KnowsAll core.now facts.now (all_told core.now.lits forms) → NamesProgram self.old self.new (all_told core.now.lits forms) proc) }
+    {
         let mut steps = Vec::new(self.alloc);
         self.name_forms(core, facts, deep, &mut steps)?;
         Ok(Proc {
@@ -35,7 +48,9 @@ impl Namer {
         facts: &'f Facts<'a>,
         deep: u32,
         steps: &mut Vec<Step>,
-    ) -> Result<(), AllocError> {
+    ) -> Result<(), AllocError>
+        ensures { OnOk result ((forms : Trees Ref) → Holds core.now forms → KnowsAll core.now facts.now (all_told core.now.lits forms) → NamesForms self.old self.new steps.old.items steps.new.items (all_told core.now.lits forms)) }
+    {
         let mut form: u32 = 0;
         let mut left = core.forms.as_slice();
         while let Some((expr, others)) = left.split_first() {
@@ -56,7 +71,9 @@ impl Namer {
         facts: &'f Facts<'a>,
         deep: u32,
         procs: &mut Procs,
-    ) -> Result<(), AllocError> {
+    ) -> Result<(), AllocError>
+        ensures { OnOk result ((all : Exprs) (ls : List (ℕ × Expr)) → KnowsAll core.now facts.now all → ArePlaced core.now facts.now.survey.procs.items ls → NamesProcs self.old self.new procs.old procs.new all ls) }
+    {
         let mut after: u32 = 1;
         let mut left = facts.survey.procs.as_slice();
         while let Some((origin, others)) = left.split_first() {
@@ -77,7 +94,9 @@ impl Namer {
         stand: Stand<'a, 'f>,
         lambda: u32,
         deep: u32,
-    ) -> Result<Proc, AllocError> {
+    ) -> Result<Proc, AllocError>
+        ensures { IfOk result (λ proc. (e : Tree Ref) → Stands stand.entry.core.now.exprs lambda e → (s : Setting) → Fits stand.entry s → (n p : ℕ) → NamesProc s n p self.old self.new (told stand.entry.core.now.lits e) proc) }
+    {
         let Some(node) = stand.core.exprs.get(lambda as usize) else {
             return Err(AllocError);
         };
@@ -102,7 +121,9 @@ impl Namer {
         })
     }
 
-    fn param_vars(&mut self, params: &List<VarRef>) -> Result<Ids, AllocError> {
+    fn param_vars(&mut self, params: &List<VarRef>) -> Result<Ids, AllocError>
+        ensures { IfOk result (λ vars. TakesVars self.old self.new (length params.now) vars) }
+    {
         let mut vars = Ids::new(self.alloc);
         let mut left = params.as_slice();
         while let Some((_, others)) = left.split_first() {
@@ -112,7 +133,9 @@ impl Namer {
         Ok(vars)
     }
 
-    fn rest_var(&mut self, rest: &Option<VarRef>) -> Result<Option<u32>, AllocError> {
+    fn rest_var(&mut self, rest: &Option<VarRef>) -> Result<Option<u32>, AllocError>
+        ensures { IfOk result (λ last. TakesRest self.old self.new (option_number rest.now) last) }
+    {
         match rest {
             Some(_) => Ok(Some(self.fresh()?)),
             None => Ok(None),
@@ -126,12 +149,14 @@ impl Namer {
         vars: &[u32],
         pos: Pos,
         steps: &mut Vec<Step>,
-    ) -> Result<(), AllocError> {
+    ) -> Result<(), AllocError>
+        ensures { OnOk result ((s : Setting) → Fits stand.entry s → (n p v : ℕ) → vars.now ≡ numbers_from v (length params.now) → SettlesAll s n p self.old self.new steps.old.items steps.new.items pos (numbers params.now) v) }
+    {
         let mut params = params.as_slice();
         let mut vars = vars;
         while let Some((param, other_params)) = params.split_first() {
             let Some((var, other_vars)) = vars.split_first() else {
-                break;
+                return Ok(());
             };
             self.settle(stand, param, *var, pos, steps)?;
             params = other_params;
@@ -147,10 +172,28 @@ impl Namer {
         var: Option<u32>,
         pos: Pos,
         steps: &mut Vec<Step>,
-    ) -> Result<(), AllocError> {
-        match (rest, var) {
-            (Some(param), Some(var)) => self.settle(stand, param, var, pos, steps),
-            _ => Ok(()),
+    ) -> Result<(), AllocError>
+        ensures { OnOk result ((s : Setting) → Fits stand.entry s → (n p v : ℕ) → var ≡ rest_var s (option_number rest.now) v → SettlesAll s n p self.old self.new steps.old.items steps.new.items pos (all_params [] (option_number rest.now)) v) }
+    {
+        match rest {
+            Some(param) => self.settle_last(stand, param, var, pos, steps),
+            None => Ok(()),
+        }
+    }
+
+    fn settle_last<'a, 'f>(
+        &mut self,
+        stand: Stand<'a, 'f>,
+        param: &VarRef,
+        var: Option<u32>,
+        pos: Pos,
+        steps: &mut Vec<Step>,
+    ) -> Result<(), AllocError>
+        ensures { OnOk result ((s : Setting) → Fits stand.entry s → (n p v : ℕ) → var ≡ Some v → SettlesAll s n p self.old self.new steps.old.items steps.new.items pos (number param.now ∷ []) v) }
+    {
+        match var {
+            Some(var) => self.settle(stand, param, var, pos, steps),
+            None => Ok(()),
         }
     }
 }

@@ -1,4 +1,13 @@
-use crate::direct::{direct_lambda, is_hole};
+ghost use Rattle.std.specs.Prelude.{ℕ, ◌∷◌, [], if◌then◌else◌, List as Vars, Option, None, IfOk, OnOk};
+ghost use Rattle.core_form.specs.declared.program.VarRef.{VarRef as Ref};
+ghost use Rattle.core_form.specs.declared.program.Program.{Program as Core};
+ghost use Rattle.core_form.specs.Trees.{Tree, Trees, Call, Holds, Lambda, Stands, StandAll};
+ghost use Rattle.scheme_base.specs.declared.pos.Pos.{Pos as Position};
+ghost use Rattle.box_name.specs.Finding.{Finds, FindsIn, FindsInAll, IsSurvey, SeesForms, local_of, top_of};
+ghost use Rattle.box_name.specs.Told.{Direct as DirectCall, told, all_told, told_operands, number, numbers, top_name};
+ghost use Rattle.box_name.specs.Whole.{unvalued};
+
+use crate::direct::{Direct, direct_lambda, is_hole};
 use alpha_core::Name;
 use core_form::{Renamed, VarRef, What};
 use indexmap::{IndexMap, IndexSet};
@@ -29,11 +38,9 @@ pub(crate) struct Survey<'a> {
 
 impl<'a> Survey<'a> {
     /// Looks at the forms of a core, whose depth is at most `deep`.
-    pub(crate) fn new(
-        alloc: Global,
-        core: &'a Renamed,
-        deep: u32,
-    ) -> Result<Survey<'a>, AllocError> {
+    pub(crate) fn new(alloc: Global, core: &'a Renamed, deep: u32) -> Result<Survey<'a>, AllocError>
+        ensures { IfOk result (λ survey. (forms : Trees Ref) → Holds core.now forms → IsSurvey core.now survey (all_told core.now.lits forms)) }
+    {
         let mut survey = Survey {
             procs: Vec::new(alloc),
             inside: IndexMap::new(alloc),
@@ -45,7 +52,9 @@ impl<'a> Survey<'a> {
         Ok(survey)
     }
 
-    fn survey_forms(&mut self, core: &'a Renamed, deep: u32) -> Result<(), AllocError> {
+    fn survey_forms(&mut self, core: &'a Renamed, deep: u32) -> Result<(), AllocError>
+        ensures { OnOk result ((forms : Trees Ref) → Holds core.now forms → SeesForms core.now 0 self.old self.new (all_told core.now.lits forms)) }
+    {
         let mut form: u32 = 0;
         let mut left = core.forms.as_slice();
         while let Some((expr, others)) = left.split_first() {
@@ -66,7 +75,9 @@ impl<'a> Survey<'a> {
         expr: u32,
         form: u32,
         deep: u32,
-    ) -> Result<(), AllocError> {
+    ) -> Result<(), AllocError>
+        ensures { OnOk result ((e : Tree Ref) → Stands core.now.exprs expr e → FindsIn core.now form self.old self.new (told core.now.lits e)) }
+    {
         if deep == 0 {
             return Err(AllocError);
         }
@@ -91,8 +102,7 @@ impl<'a> Survey<'a> {
                 self.survey_expr(core, *value, form, deep)
             }
             What::Call { operator, operands } => {
-                self.survey_operator(core, *operator, operands, form, deep)?;
-                self.survey_list(core, operands, form, deep)
+                self.survey_call(core, *operator, operands, form, deep)
             }
             What::Prim { operands, .. } => self.survey_list(core, operands, form, deep),
             What::Seq { items } => self.survey_list(core, items, form, deep),
@@ -101,7 +111,7 @@ impl<'a> Survey<'a> {
                 self.survey_expr(core, *body, form, deep)
             }
             What::Define { var, value } => {
-                self.note_top(var)?;
+                self.note_defined(var)?;
                 self.survey_expr(core, *value, form, deep)
             }
         }
@@ -116,7 +126,9 @@ impl<'a> Survey<'a> {
         body: u32,
         form: u32,
         deep: u32,
-    ) -> Result<(), AllocError> {
+    ) -> Result<(), AllocError>
+        ensures { OnOk result ((q : Position) (xs : Vars Ref) (r : Option Ref) (b : Tree Ref) → Stands core.now.exprs lambda (Lambda q xs r b) → Stands core.now.exprs body b → FindsIn core.now form self.old self.new (told core.now.lits b)) }
+    {
         let before = self.procs.len();
         self.survey_expr(core, body, form, deep)?;
         let Some(inside) = self.procs.len().checked_sub(before) else {
@@ -129,26 +141,45 @@ impl<'a> Survey<'a> {
         Ok(())
     }
 
-    /// Looks at the operator of a call, which may be bound in place.
+    /// Looks at a call, whose operator may be bound in place.
     #[cycle(survey)]
-    fn survey_operator(
+    fn survey_call(
         &mut self,
         core: &'a Renamed,
         operator: u32,
         operands: &'a Ids,
         form: u32,
         deep: u32,
-    ) -> Result<(), AllocError> {
+    ) -> Result<(), AllocError>
+        ensures { OnOk result ((p : Position) (f : Tree Ref) (es : Trees Ref) → Stands core.now.exprs operator f → StandAll core.now.exprs operands.now es → FindsIn core.now form self.old self.new (told core.now.lits (Call p f es))) }
+    {
         match direct_lambda(core, operator, operands.len()) {
-            Some(lambda) => {
-                if deep == 0 {
-                    return Err(AllocError);
-                }
-                self.note_holes(core, lambda.params, operands)?;
-                self.survey_body(core, operator, lambda.body, form, deep - 1)
+            Some(lambda) => self.survey_direct(core, operator, lambda, operands, form, deep),
+            None => {
+                self.survey_expr(core, operator, form, deep)?;
+                self.survey_list(core, operands, form, deep)
             }
-            None => self.survey_expr(core, operator, form, deep),
         }
+    }
+
+    #[cycle(survey)]
+    fn survey_direct(
+        &mut self,
+        core: &'a Renamed,
+        operator: u32,
+        lambda: Direct<'a>,
+        operands: &'a Ids,
+        form: u32,
+        deep: u32,
+    ) -> Result<(), AllocError>
+        ensures { OnOk result ((p q : Position) (b : Tree Ref) (es : Trees Ref) → Stands core.now.exprs operator (Lambda q lambda.entry.params.now None b) → Stands core.now.exprs lambda.entry.body b → StandAll core.now.exprs operands.now es → FindsIn core.now form self.old self.new (DirectCall p (numbers lambda.entry.params.now) (told core.now.lits b) (told_operands core.now.lits es))) }
+    {
+        if deep == 0 {
+            return Err(AllocError);
+        }
+        self.note_holes(core, lambda.params, operands)?;
+        self.survey_body(core, operator, lambda.body, form, deep - 1)?;
+        self.survey_list(core, operands, form, deep)
     }
 
     #[cycle(survey)]
@@ -158,7 +189,9 @@ impl<'a> Survey<'a> {
         exprs: &'a Ids,
         form: u32,
         deep: u32,
-    ) -> Result<(), AllocError> {
+    ) -> Result<(), AllocError>
+        ensures { OnOk result ((es : Trees Ref) → StandAll core.now.exprs exprs.now es → FindsInAll core.now form self.old self.new (all_told core.now.lits es)) }
+    {
         let mut left = exprs.as_slice();
         while let Some((expr, others)) = left.split_first() {
             self.survey_expr(core, *expr, form, deep)?;
@@ -173,23 +206,32 @@ impl<'a> Survey<'a> {
         core: &'a Renamed,
         params: &'a List<VarRef>,
         operands: &'a Ids,
-    ) -> Result<(), AllocError> {
+    ) -> Result<(), AllocError>
+        ensures { OnOk result ((form : ℕ) (es : Trees Ref) → StandAll core.now.exprs operands.now es → Finds core.now form self.old self.new [] [] (unvalued (numbers params.now) (told_operands core.now.lits es)) []) }
+    {
         let mut params = params.as_slice();
         let mut operands = operands.as_slice();
         while let Some((param, other_params)) = params.split_first() {
             let Some((operand, other_operands)) = operands.split_first() else {
-                break;
+                return Ok(());
             };
-            if is_hole(core, *operand) {
-                self.note_hole(param)?;
-            }
+            self.note_operand(param, is_hole(core, *operand))?;
             params = other_params;
             operands = other_operands;
         }
         Ok(())
     }
 
-    fn note_hole(&mut self, param: &'a VarRef) -> Result<(), AllocError> {
+    /// Notes a parameter, if its operand is the undefined value.
+    fn note_operand(&mut self, param: &'a VarRef, hole: bool) -> Result<(), AllocError>
+        ensures { OnOk result ((core : Core Ref) (form : ℕ) → Finds core form self.old self.new [] [] (if hole then number param.now ∷ [] else []) []) }
+    {
+        if hole { self.note_hole(param) } else { Ok(()) }
+    }
+
+    fn note_hole(&mut self, param: &'a VarRef) -> Result<(), AllocError>
+        ensures { OnOk result ((core : Core Ref) (form : ℕ) → Finds core form self.old self.new [] [] (number param.now ∷ []) []) }
+    {
         match param {
             VarRef::Local(number) => {
                 self.holes.insert(*number)?;
@@ -199,7 +241,9 @@ impl<'a> Survey<'a> {
         }
     }
 
-    fn note_top(&mut self, var: &'a VarRef) -> Result<(), AllocError> {
+    fn note_top(&mut self, var: &'a VarRef) -> Result<(), AllocError>
+        ensures { OnOk result ((core : Core Ref) (form : ℕ) → Finds core form self.old self.new [] [] [] (top_of var.now)) }
+    {
         match var {
             VarRef::Local(_) => Ok(()),
             VarRef::Top(var) => {
@@ -209,7 +253,22 @@ impl<'a> Survey<'a> {
         }
     }
 
-    fn note_assigned(&mut self, var: &'a VarRef) -> Result<(), AllocError> {
+    /// Notes the variable of a definition, which is a top-level one.
+    fn note_defined(&mut self, var: &'a VarRef) -> Result<(), AllocError>
+        ensures { OnOk result ((core : Core Ref) (form : ℕ) → Finds core form self.old self.new [] [] [] (top_name var.now ∷ [])) }
+    {
+        match var {
+            VarRef::Local(_) => Err(AllocError),
+            VarRef::Top(var) => {
+                self.tops.insert(Name::of(var))?;
+                Ok(())
+            }
+        }
+    }
+
+    fn note_assigned(&mut self, var: &'a VarRef) -> Result<(), AllocError>
+        ensures { OnOk result ((core : Core Ref) (form : ℕ) → Finds core form self.old self.new [] (local_of var.now) [] (top_of var.now)) }
+    {
         match var {
             VarRef::Local(number) => {
                 self.assigned.insert(*number)?;

@@ -1,4 +1,9 @@
-use Rattle.std.proofs.Common.{◌+◌, ◌*◌, length}
+use Rattle.std.proofs.Common.{◌≡◌, ℕ, ◌+◌, ◌*◌, length}
+use Rattle.core_form.specs.declared.program.VarRef.{VarRef}
+use Rattle.core_form.specs.Trees.{Trees, StandAll}
+use Rattle.box_name.specs.Fitting.{Fits}
+use Rattle.box_name.specs.Naming.{Setting}
+use Rattle.box_name.proofs.Listing.{Going, Paying}
 use Rattle.box_name.proofs.namer.Namer.+name.Given as goal
 
 abbrev pub decreases-name_expr : goal.decreases-name_expr
@@ -30,3 +35,15 @@ decreases-name_list-loop-expr l = length l.left
 
 abbrev pub decreases-name_values-loop-operand : goal.decreases-name_values-loop-operand
 decreases-name_values-loop-operand l = length l.left
+
+abbrev pub invariant-name_list-loop-expr : goal.invariant-name_list-loop-expr
+invariant-name_list-loop-expr l =
+    (es : Trees VarRef) → StandAll l.fn.stand.core.now.exprs l.fn.exprs es → (s : Setting) → Fits l.fn.stand s → (n p : ℕ)
+    → l.fn.self.next_var ≡ n → l.fn.self.next_proc ≡ p
+    → Going l.fn.stand.core.now.exprs l.fn.stand.core.now.lits s n p l.fn.self l.self l.fn.steps.items l.steps.items es l.left l.values
+
+abbrev pub invariant-name_values-loop-operand : goal.invariant-name_values-loop-operand
+invariant-name_values-loop-operand l =
+    (es : Trees VarRef) → StandAll l.fn.stand.core.now.exprs l.fn.operands es → (s : Setting) → Fits l.fn.stand s → (n p : ℕ)
+    → l.fn.self.next_var ≡ n → l.fn.self.next_proc ≡ p
+    → Paying l.fn.stand.core.now.exprs l.fn.stand.core.now.lits s n p l.fn.self l.self l.fn.steps.items l.steps.items es l.left l.values.items
