@@ -1,8 +1,10 @@
 //! The constraints of a program, if there are not too many.
 
-ghost use Rattle.std.specs.Prelude.{◌≡◌, length, map, None, IfOk, IfErr};
+ghost use Rattle.std.specs.Prelude.{◌≡◌, length, map, None, IfOk, IfErr, MatchOption};
 ghost use Rattle.flow_form.specs.Shape.{IsMadeOf};
+ghost use Rattle.flow_form.specs.Valid.{IsValid};
 ghost use Rattle.named_form.specs.Code.{first_sites};
+ghost use Rattle.named_form.specs.Valid.{WellFormed};
 ghost use Rattle.named_form.specs.Written.{form, procedure};
 ghost use Rattle.flow_constraints.specs.Layout.{flow_of as flow_in};
 ghost use Rattle.flow_constraints.specs.Limits.{Refuses, atom_count, passed, past as past_most, row_count, table_limit as table_passed};
@@ -28,12 +30,15 @@ const MOST_WORDS: u64 = 4_194_304;
 const MOST_RULES: u64 = 8_388_608;
 
 /// The constraints of a program: its rows and atoms, and the list of its rules. A limit is told where a count is
-/// past its most: of rows, of atoms, of words of all rows, of rules, the first of these that is.
-#[tactic(auto, using(crate::proofs::Refused::table_passed))]
+/// past its most: of rows, of atoms, of words of all rows, of rules, the first of these that is. A well-formed
+/// program that passes no limit has valid rules, so it is refused for want of memory alone, or for a count that
+/// leaves 32 bits before it can be told.
+#[tactic(auto, using(crate::proofs::Refused::table_passed, crate::proofs::ProgramFits::rules_valid))]
 pub fn generate(alloc: Global, named: &Named) -> Result<Constraints, LimitErr>
     ensures made { IfOk result (λ c. IsMadeOf c (row_count (form named.now)) (atom_count (form named.now)) (rules_of (form named.now))) }
     ensures within { IfOk result (λ c. passed (form named.now) ≡ None) }
     ensures refused { IfErr result (Refuses (form named.now)) }
+    ensures valid { WellFormed (form named.now) → passed (form named.now) ≡ None → IsValid (row_count (form named.now)) (atom_count (form named.now)) (rules_of (form named.now)) }
 {
     let Ok(flow) = flow_of(alloc, named) else {
         return Err(LimitErr::NoMemory);
@@ -52,9 +57,13 @@ pub fn generate(alloc: Global, named: &Named) -> Result<Constraints, LimitErr>
     if let Some(limit) = past(LimitKind::Rules, count, MOST_RULES) {
         return Err(LimitErr::Limit(limit));
     }
-    match listed(alloc, &flow, atoms, lits, procs, count) {
-        Ok(constraints) => Ok(constraints),
-        Err(_) => Err(LimitErr::NoMemory),
+    let Ok(made) = listed(alloc, &flow, atoms, lits, procs, count) else {
+        return Err(LimitErr::NoMemory);
+    };
+    match made {
+        Some(constraints) => Ok(constraints),
+        // no well-formed program comes here
+        None => Err(LimitErr::NoMemory),
     }
 }
 
@@ -84,7 +93,7 @@ fn table_limit(rows: u32, atoms: u32) -> Option<Limit>
     past(LimitKind::Table, rows * atoms.div_ceil(64), MOST_WORDS)
 }
 
-/// The constraints of a program with so many atoms and rules.
+/// The constraints of a program with so many atoms and rules, if the rules are valid.
 fn listed(
     alloc: Global,
     flow: &Flow,
@@ -92,11 +101,12 @@ fn listed(
     lits: &[Lit],
     procs: &[Proc],
     count: u64,
-) -> Result<Constraints, AllocError>
-    ensures { IfOk result (λ c. IsMadeOf c flow.now.rows atoms (put_procs flow.now lits.now (first_sites (map procedure procs.now)) (map procedure procs.now))) }
+) -> Result<Option<Constraints>, AllocError>
+    ensures { let rules = put_procs flow.now lits.now (first_sites (map procedure procs.now)) (map procedure procs.now) in
+        IfOk result (λ o. MatchOption o (¬ IsValid flow.now.rows atoms rules) (λ c. IsMadeOf c flow.now.rows atoms rules)) }
 {
     let room = usize::try_from(count).map_err(|_| AllocError)?;
     let mut rules: Rules = List::from_vec(Vec::with_capacity(alloc, room)?);
     put_all(alloc, flow, lits, &mut rules, procs)?;
-    Constraints::new(flow.rows, atoms, rules).ok_or(AllocError)
+    Ok(Constraints::new(flow.rows, atoms, rules))
 }

@@ -12,14 +12,14 @@ mod calls;
 mod constraints;
 mod counts;
 mod flow;
+mod law;
 mod layout;
 mod literals;
 mod operations;
 mod put;
 mod steps;
 mod tally;
-#[cfg(test)]
-mod tests;
 
 pub use constraints::generate;
 pub use flow::{Entries, Entry, Flow, Kind, Kinds};
+pub use law::rules_are_valid;
