@@ -4,16 +4,23 @@ ghost use Rattle.type_table.specs.Tables.{IsOf};
 ghost use Rattle.flow_workers.specs.Steps.{Steps};
 
 use crate::found::Found;
-use crate::notes::{Grown, Notes};
+use crate::notes::Notes;
 use crate::readers::{Readers, Run, Thing};
-use crate::rule::{apply, apply_word};
+use crate::rule::{apply, apply_words};
 use flow_form::Constraints;
+use std::alloc::Global;
 use type_table::{Pass, TypeTable};
 
 /// Applies the rules that read what the pass has grown, and so on, until all that it has grown is followed.
 ///
-/// Each item of the list has a bit that nobody had set before, so there are no more than the rows have bits.
-pub(crate) fn drain(c: &Constraints, table: &TypeTable, pass: &mut Pass, notes: &mut Notes)
+/// Each row that is taken has a bit that nobody had set before, so there are no more than the rows have bits.
+pub(crate) fn drain(
+    alloc: Global,
+    c: &Constraints,
+    table: &TypeTable,
+    pass: &mut Pass,
+    notes: &mut Notes,
+)
     requires opened { table.now.constraints ≡ c.now }
     requires of { IsOf pass.old table.now }
     ensures { Steps c.now table.now pass.old pass.new }
@@ -21,35 +28,58 @@ pub(crate) fn drain(c: &Constraints, table: &TypeTable, pass: &mut Pass, notes: 
     let Some(readers) = notes.readers else {
         return;
     };
+    let Ok(mut grown) = vec![in alloc; 0; c.stride() as usize] else {
+        return;
+    };
     for _ in 0..c.size() * 64 {
-        let Some(grown) = notes.take() else {
+        let Some(row) = notes.take(grown.as_mut_slice()) else {
             return;
         };
-        follow(c, table, pass, notes, readers, grown);
+        follow(c, table, pass, notes, readers, row, grown.as_slice());
     }
 }
 
-/// Applies the rules that read bits of a word.
+/// Applies the rules that read what has grown in a row, word by word.
 fn follow(
     c: &Constraints,
     table: &TypeTable,
     pass: &mut Pass,
     notes: &mut Notes,
     readers: &Readers,
-    grown: Grown,
+    row: u32,
+    grown: &[u64],
 )
     requires opened { table.now.constraints ≡ c.now }
     requires of { IsOf pass.old table.now }
     ensures { Steps c.now table.now pass.old pass.new }
 {
-    let stride = c.stride().max(1);
-    let row = grown.word / stride;
-    let at = grown.word % stride;
     for part in 0..readers.parts() {
-        follow_atoms(c, table, pass, notes, readers, part, row, at, grown.bits);
+        follow_words(c, table, pass, notes, readers, part, row, grown);
         begin(c, table, pass, notes, readers, part, Thing::others(row));
     }
-    pass_on(c, table, pass, notes, readers, row, at);
+    pass_on(c, table, pass, notes, readers, row, grown);
+}
+
+/// Applies the rules of a part that test for atoms of a row.
+fn follow_words(
+    c: &Constraints,
+    table: &TypeTable,
+    pass: &mut Pass,
+    notes: &mut Notes,
+    readers: &Readers,
+    part: usize,
+    row: u32,
+    grown: &[u64],
+)
+    requires opened { table.now.constraints ≡ c.now }
+    requires of { IsOf pass.old table.now }
+    ensures { Steps c.now table.now pass.old pass.new }
+{
+    let words = (c.stride() as usize).min(grown.len());
+    for at in 0..words {
+        let bits = readers.tested(c, row, at, grown[at]);
+        follow_atoms(c, table, pass, notes, readers, part, row, at as u32, bits);
+    }
 }
 
 /// Applies the rules of a part that test for one of the atoms.
@@ -119,7 +149,7 @@ fn begin_run(
     }
 }
 
-/// Gives one word more of a row by those rules whose tests hold.
+/// Gives the words of a row that have grown by those rules whose tests hold.
 fn pass_on(
     c: &Constraints,
     table: &TypeTable,
@@ -127,7 +157,7 @@ fn pass_on(
     notes: &mut Notes,
     readers: &Readers,
     row: u32,
-    at: u32,
+    grown: &[u64],
 )
     requires opened { table.now.constraints ≡ c.now }
     requires of { IsOf pass.old table.now }
@@ -139,7 +169,7 @@ fn pass_on(
             return;
         };
         if rule < c.rules.len() {
-            apply_word(c, table, pass, notes, rule, at);
+            apply_words(c, table, pass, notes, rule, grown);
         }
         next = readers.found.giver_before(rule);
     }

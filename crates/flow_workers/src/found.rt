@@ -11,14 +11,15 @@ use std::sync::atomic::{AtomicU32, AtomicU64, Ordering};
 /// How often a worker tries to be the last in a list, while others are.
 const TRIES: u32 = 1_000;
 
-/// A bit for each rule.
+/// Bits that workers set side by side.
 #[derive(Drop)]
-struct Bits {
+pub(crate) struct Bits {
     words: Vec<AtomicU64>,
 }
 
 impl Bits {
-    fn new(alloc: Global, bits: usize) -> Result<Bits, AllocError> {
+    /// So many bits, none of which is set.
+    pub(crate) fn new(alloc: Global, bits: usize) -> Result<Bits, AllocError> {
         let mut words = Vec::new(alloc);
         for _ in 0..bits.div_ceil(64) {
             words.push(AtomicU64::new(0))?;
@@ -26,15 +27,27 @@ impl Bits {
         Ok(Bits { words })
     }
 
-    fn has(&self, bit: usize) -> bool {
-        match self.words.as_slice().get(bit / 64) {
-            Some(word) => (word.load(Ordering::SeqCst) >> (bit % 64)) & 1 == 1,
-            None => false,
+    /// No bits.
+    pub(crate) fn none(alloc: Global) -> Bits {
+        Bits {
+            words: Vec::new(alloc),
         }
     }
 
+    /// The bits of a word.
+    pub(crate) fn word(&self, at: usize) -> u64 {
+        match self.words.as_slice().get(at) {
+            Some(word) => word.load(Ordering::SeqCst),
+            None => 0,
+        }
+    }
+
+    fn has(&self, bit: usize) -> bool {
+        (self.word(bit / 64) >> (bit % 64)) & 1 == 1
+    }
+
     /// Sets a bit, and says whether it was not set before.
-    fn set(&self, bit: usize) -> bool {
+    pub(crate) fn set(&self, bit: usize) -> bool {
         if self.has(bit) {
             return false;
         }
@@ -116,12 +129,8 @@ impl Found {
 
     pub(crate) fn none(alloc: Global) -> Found {
         Found {
-            second_holds: Bits {
-                words: Vec::new(alloc),
-            },
-            both_hold: Bits {
-                words: Vec::new(alloc),
-            },
+            second_holds: Bits::none(alloc),
+            both_hold: Bits::none(alloc),
             givers: Givers {
                 last: Vec::new(alloc),
                 before: Vec::new(alloc),

@@ -16,8 +16,6 @@ mod rounds;
 mod rule;
 mod settled;
 mod step;
-#[cfg(test)]
-mod tests;
 
 pub use block::do_block;
 pub use rounds::solve;

@@ -1,60 +1,109 @@
 //! What a worker has grown and not followed yet.
 
 use crate::readers::Readers;
+use bit_rows::next_member;
 use flow_form::{Constraints, Give};
-use std::alloc::Global;
+use std::alloc::{AllocError, Global};
+use std::mem::take;
 
-/// Bits that a worker was the first to set in a word.
-#[derive(Clone, Copy)]
-pub(crate) struct Grown {
-    pub word: u32,
-    pub bits: u64,
+/// The rows that wait to be followed, a bit for each, and what has grown in them: a mask for each word, which new
+/// bits join until its row is taken.
+#[derive(Drop)]
+struct Waiting {
+    stride: u32,
+    rows: Vec<u64>,
+    masks: Vec<u64>,
+    /// Where the search for the next row begins.
+    next: u32,
 }
 
-/// A list of what has grown, with room for so much and no more: what finds no room is left to the next round.
-///
-/// Where there is no index, or no room at all, nothing is noted.
+impl Waiting {
+    /// A list on which nothing waits.
+    fn new(alloc: Global, c: &Constraints) -> Result<Waiting, AllocError> {
+        Ok(Waiting {
+            stride: c.stride(),
+            rows: vec![in alloc; 0; c.rows.div_ceil(64) as usize]?,
+            masks: vec![in alloc; 0; c.size() as usize]?,
+            next: 0,
+        })
+    }
+
+    fn put(&mut self, word: u32, bits: u64) {
+        let row = word / self.stride.max(1);
+        if let Some(mask) = self.masks.get_mut(word as usize) {
+            *mask |= bits;
+        }
+        if let Some(rows) = self.rows.get_mut(row as usize / 64) {
+            *rows |= 1 << (row % 64);
+        }
+    }
+
+    /// The next row that waits, behind the last one that was taken or else from the first on.
+    fn next_row(&mut self) -> Option<u32> {
+        let rows = self.rows.as_slice();
+        let row = match next_member(rows, self.next) {
+            Some(row) => row,
+            None => next_member(rows, 0)?,
+        };
+        self.next = row.saturating_add(1);
+        if let Some(rows) = self.rows.get_mut(row as usize / 64) {
+            *rows &= !(1 << (row % 64));
+        }
+        Some(row)
+    }
+
+    /// Takes the mask of a word of a row.
+    fn take_mask(&mut self, row: u32, at: usize) -> u64 {
+        let first = row.wrapping_mul(self.stride) as usize;
+        match self.masks.get_mut(first.wrapping_add(at)) {
+            Some(mask) => take(mask),
+            None => 0,
+        }
+    }
+}
+
+/// The list of a worker. Where there is no index, or no memory for a list, nothing is noted, and what has grown is
+/// left to the next round.
 #[derive(Drop)]
 pub(crate) struct Notes<'a> {
     pub readers: Option<&'a Readers>,
-    room: Option<Vec<Grown>>,
-    top: usize,
+    waiting: Option<Waiting>,
 }
 
 impl<'a> Notes<'a> {
     pub(crate) fn none() -> Notes<'a> {
         Notes {
             readers: None,
-            room: None,
-            top: 0,
+            waiting: None,
         }
     }
 
     /// A list for one worker.
     pub(crate) fn new(alloc: Global, c: &Constraints, readers: &'a Readers) -> Notes<'a> {
+        if readers.parts() == 0 {
+            return Notes::none();
+        }
         Notes {
             readers: Some(readers),
-            room: room(alloc, c, readers),
-            top: 0,
+            waiting: Waiting::new(alloc, c).ok(),
         }
     }
 
     /// Notes bits that were set in a word.
     pub(crate) fn grew(&mut self, word: u32, bits: u64) {
-        if let Some(room) = &mut self.room {
-            if let Some(item) = room.get_mut(self.top) {
-                *item = Grown { word, bits };
-                self.top = self.top.saturating_add(1);
-            }
+        if let Some(waiting) = &mut self.waiting {
+            waiting.put(word, bits);
         }
     }
 
-    /// The last item of the list, which is taken from it.
-    pub(crate) fn take(&mut self) -> Option<Grown> {
-        let room = self.room.as_ref()?;
-        let top = self.top.checked_sub(1)?;
-        self.top = top;
-        room.as_slice().get(top).copied()
+    /// The next row that waits, and what has grown in it, word by word.
+    pub(crate) fn take(&mut self, grown: &mut [u64]) -> Option<u32> {
+        let waiting = self.waiting.as_mut()?;
+        let row = waiting.next_row()?;
+        for (at, mask) in grown.iter_mut().enumerate() {
+            *mask = waiting.take_mask(row, at);
+        }
+        Some(row)
     }
 
     /// Notes that the second test of a rule holds.
@@ -70,13 +119,4 @@ impl<'a> Notes<'a> {
             readers.found.note_both(rule, give);
         }
     }
-}
-
-/// Room for an item for each 16 rules, where there is an index.
-fn room(alloc: Global, c: &Constraints, readers: &Readers) -> Option<Vec<Grown>> {
-    if readers.parts() == 0 {
-        return None;
-    }
-    let none = Grown { word: 0, bits: 0 };
-    vec![in alloc; none; c.rules.len() / 16].ok()
 }

@@ -6,7 +6,7 @@
 ghost use Rattle.std.specs.Prelude.{◌<◌};
 ghost use Rattle.std.specs.Thread.{IsSync};
 
-use crate::found::Found;
+use crate::found::{Bits, Found};
 use flow_form::{Constraints, MOST_ATOMS, Rule, Test};
 use std::alloc::{AllocError, AllocGlobal, Global};
 use std::thread::{Threads, join};
@@ -103,9 +103,11 @@ impl Part {
 }
 
 /// The runs of the rules from one to before another, as they are listed, those of second tests behind the others.
+/// What they test is noted.
 fn runs_of(
     alloc: Global,
     c: &Constraints,
+    tested: &Bits,
     first: usize,
     end: usize,
 ) -> Result<Vec<Run>, AllocError> {
@@ -114,11 +116,29 @@ fn runs_of(
     let mut seconds = Vec::new(alloc);
     for index in first..end.min(rules.len()) {
         let rule: &Rule = &rules[index];
+        note_tested(c, tested, rule.first);
+        note_tested(c, tested, rule.second);
         extend(&mut runs, rule.first, index, false)?;
         extend(&mut seconds, rule.second, index, true)?;
     }
     runs.extend_from_slice(seconds.as_slice())?;
     Ok(runs)
+}
+
+/// Notes the atom of a row that is tested for.
+fn note_tested(c: &Constraints, tested: &Bits, test: Option<Test>) {
+    if let Some(Test::Has { row, atom }) = test {
+        tested.set(
+            word_of(c, row, 0)
+                .wrapping_mul(64)
+                .wrapping_add(atom as usize),
+        );
+    }
+}
+
+/// The place of a word of a row.
+fn word_of(c: &Constraints, row: u32, at: usize) -> usize {
+    (row.wrapping_mul(c.stride()) as usize).wrapping_add(at)
 }
 
 /// Puts a rule's test at the end of the runs.
@@ -147,8 +167,14 @@ fn extend(
     Ok(())
 }
 
-fn part_of(alloc: Global, c: &Constraints, first: usize, end: usize) -> Result<Part, AllocError> {
-    let listed = runs_of(alloc, c, first, end)?;
+fn part_of(
+    alloc: Global,
+    c: &Constraints,
+    tested: &Bits,
+    first: usize,
+    end: usize,
+) -> Result<Part, AllocError> {
+    let listed = runs_of(alloc, c, tested, first, end)?;
     let mut part = Part {
         starts: vec![in alloc; 0; listed.len()]?,
         runs: listed.as_slice().to_vec(alloc)?,
@@ -168,13 +194,14 @@ fn parts_of<R: Threads + Sync>(
     rt: &R,
     alloc: Global,
     c: &Constraints,
+    tested: &Bits,
     first: usize,
     end: usize,
     threads: u32,
 ) -> Result<Vec<Part>, AllocError> {
     let mut all = Vec::new(alloc);
     if threads <= 1 {
-        all.push(part_of(alloc, c, first, end)?)?;
+        all.push(part_of(alloc, c, tested, first, end)?)?;
         return Ok(all);
     }
     let middle = first.midpoint(end);
@@ -184,10 +211,10 @@ fn parts_of<R: Threads + Sync>(
         rt,
         || -> Result<Vec<Part>, AllocError>
             requires { IsSync R.row × (0 < half) }
-        { parts_of(rt, alloc, c, first, middle, half) },
+        { parts_of(rt, alloc, c, tested, first, middle, half) },
         || -> Result<Vec<Part>, AllocError>
             requires { IsSync R.row × (0 < others) }
-        { parts_of(rt, alloc, c, middle, end, others) },
+        { parts_of(rt, alloc, c, tested, middle, end, others) },
     );
     for part in one? {
         all.push(part)?;
@@ -202,6 +229,8 @@ fn parts_of<R: Threads + Sync>(
 #[derive(Drop)]
 pub(crate) struct Readers {
     parts: Vec<Part>,
+    /// A bit for each atom of each row, set where a rule tests whether the row has the atom.
+    tested: Bits,
     pub found: Found,
 }
 
@@ -213,8 +242,10 @@ impl Readers {
         threads: u32,
     ) -> Result<Readers, AllocError> {
         let alloc = rt.alloc();
+        let tested = Bits::new(alloc, c.size() as usize * 64)?;
         Ok(Readers {
-            parts: parts_of(rt, alloc, c, 0, c.rules.len(), threads)?,
+            parts: parts_of(rt, alloc, c, &tested, 0, c.rules.len(), threads)?,
+            tested,
             found: Found::new(alloc, c)?,
         })
     }
@@ -223,12 +254,21 @@ impl Readers {
     pub(crate) fn none(alloc: Global) -> Readers {
         Readers {
             parts: Vec::new(alloc),
+            tested: Bits::none(alloc),
             found: Found::none(alloc),
         }
     }
 
     pub(crate) fn parts(&self) -> usize {
         self.parts.len()
+    }
+
+    /// Those bits of a word of a row that a rule tests.
+    pub(crate) fn tested(&self, c: &Constraints, row: u32, at: usize, bits: u64) -> u64 {
+        if bits == 0 {
+            return 0;
+        }
+        bits & self.tested.word(word_of(c, row, at))
     }
 
     /// The runs of a part that test a thing, and perhaps a few that test others.

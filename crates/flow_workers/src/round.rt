@@ -136,7 +136,7 @@ fn draw<G: Gate>(
 {
     let mut notes = Notes::new(alloc, c, readers);
     draw_all(c, table, pass, settled, &mut notes, worker, gate);
-    drain(c, table, pass, &mut notes);
+    drain(alloc, c, table, pass, &mut notes);
 }
 
 /// Draws blocks and does those that are not settled, until none is left.

@@ -109,14 +109,14 @@ pub(crate) fn apply(
     }
 }
 
-/// Gives one word of the row that a rule gives, where its tests hold.
-pub(crate) fn apply_word(
+/// Gives those words of the row that a rule gives in which something has grown, where its tests hold.
+pub(crate) fn apply_words(
     c: &Constraints,
     table: &TypeTable,
     pass: &mut Pass,
     notes: &mut Notes,
     index: usize,
-    at: u32,
+    grown: &[u64],
 )
     requires opened { table.now.constraints ≡ c.now }
     requires of { IsOf pass.old table.now }
@@ -125,11 +125,8 @@ pub(crate) fn apply_word(
 {
     let rule = &c.rules.as_slice()[index];
     if let Give::Row(row) = rule.give {
-        if at < c.stride()
-            && test_holds(c, table, pass, rule.second)
-            && test_holds(c, table, pass, rule.first)
-        {
-            give_word(c, table, pass, notes, rule, row, at);
+        if test_holds(c, table, pass, rule.second) && test_holds(c, table, pass, rule.first) {
+            give_words(c, table, pass, notes, rule, row, grown);
         }
     }
 }
@@ -175,6 +172,31 @@ fn give_row(
 {
     for at in 0..c.stride() {
         give_word(c, table, pass, notes, rule, row, at);
+    }
+}
+
+/// Gives those words of a row in which something has grown.
+fn give_words(
+    c: &Constraints,
+    table: &TypeTable,
+    pass: &mut Pass,
+    notes: &mut Notes,
+    rule: &Rule,
+    row: u32,
+    grown: &[u64],
+)
+    requires opened { table.now.constraints ≡ c.now }
+    requires of { IsOf pass.old table.now }
+    requires listed { IsListed c.now rule.now }
+    requires holds { HoldsIn (In c.now pass.old.view.worker.loaded) rule.now }
+    requires row { rule.now.give ≡ Row row }
+    ensures { Steps c.now table.now pass.old pass.new }
+{
+    let words = (c.stride() as usize).min(grown.len());
+    for at in 0..words {
+        if grown[at] != 0 {
+            give_word(c, table, pass, notes, rule, row, at as u32);
+        }
     }
 }
 
