@@ -1,4 +1,5 @@
 pub mod Files
 pub mod InRows
 pub mod Laid
+pub mod Naming
 pub mod Refusals

@@ -12,7 +12,7 @@ use Rattle.named_form.specs.Written.{form}
 use Rattle.flow_constraints.specs.Limits.{Refuses as RulesRefuse}
 use Rattle.image_build.specs.declared.error.BuildErr.{BuildErr}
 use Rattle.image_build.specs.declared.error.BuildErr.TheVariants.{Read, Form, Limit as Passed, NoMemory}
-use Rattle.image_build.specs.Emitted.{IsFlat, IsLater, IsRead, IsUnlaid, PassesEarly, PassesLate, Refuses, Unanalysed, told_limit}
+use Rattle.image_build.specs.Emitted.{IsFlat, IsLater, IsNamed, IsRead, IsUnlaid, PassesEarly, PassesLate, Refuses, Unanalysed, told_limit}
 
 pub too_deep : (core : Program Var) (e : LimitErr) → HasText core → DepthRefuses core e → IsLater PassesEarly (told_limit e)
 too_deep core (limited.Limit l) text refuses =
@@ -21,13 +21,15 @@ too_deep core (limited.Limit l) text refuses =
     inl (record { which = refuses.0; forms = forms; count = counted.0; deep = counted.1 })
 too_deep core limited.NoMemory text refuses = tt
 
-pub too_large : (named : Named) (flat : Flat) (e : LimitErr) → IsFlat named flat → IsUnlaid flat e → IsLater PassesLate (told_limit e)
-too_large named flat (limited.Limit l) is_flat unlaid = inr (named, flat, is_flat, unlaid)
-too_large named flat limited.NoMemory is_flat unlaid = tt
+pub too_large : (named : Named) (flat : Flat) (e : LimitErr) → IsNamed named → IsFlat named flat → IsUnlaid flat e
+    → IsLater PassesLate (told_limit e)
+too_large named flat (limited.Limit l) is_named is_flat unlaid = inr (named, is_named, flat, is_flat, unlaid)
+too_large named flat limited.NoMemory is_named is_flat unlaid = tt
 
-pub too_many : (named : Named) (e : LimitErr) → RulesRefuse (form named) e → IsLater PassesEarly (told_limit e)
-too_many named (limited.Limit l) passes = inr (named, passes)
-too_many named limited.NoMemory passes = tt
+pub too_many : (named : Named) (e : LimitErr) → IsNamed named → RulesRefuse (form named) e
+    → IsLater PassesEarly (told_limit e)
+too_many named (limited.Limit l) is_named passes = inr (named, is_named, passes)
+too_many named limited.NoMemory is_named passes = tt
 
 late : (error : BuildErr) → IsLater PassesEarly error → IsLater PassesLate error
 late (Read e) refused = absurd refused

@@ -1,14 +1,18 @@
 -- What the compiler answers: the analysis and the file of a program, or why there is none.
-use Rattle.std.specs.Prelude.{◌≡◌, ℕ, ◌<◌, ◌≤◌, ◌^◌, List, ◌∷◌, ◌⊎◌, map, length, Some, None}
+use Rattle.std.specs.Prelude.{◌≡◌, ℕ, ◌<◌, ◌≤◌, ◌^◌, List, [], ◌∷◌, ◌⊎◌, map, length, Some, None}
 use Rattle.std.specs.List.{range_with_len}
 use Rattle.scheme_base.specs.declared.error.LimitErr.{LimitErr}
 use Rattle.scheme_base.specs.declared.error.LimitErr.TheVariants as limited
 use Rattle.scheme_base.specs.declared.limit.Limit.{Limit}
 use Rattle.scheme_base.specs.declared.limit.LimitKind.TheVariants as kind
+use Rattle.scheme_base.specs.declared.lit.Lit.{Lit}
 use Rattle.core_form.specs.declared.program.Var.{Var}
 use Rattle.core_form.specs.Trees.{Trees}
 use Rattle.alpha_core.specs.Answers.{most}
 use Rattle.alpha_core.specs.Depth.{deepest}
+use Rattle.alpha_core.specs.Renaming.{all_renamed}
+use Rattle.box_name.specs.Told.{all_told}
+use Rattle.box_name.specs.Whole.{named as named_form}
 use Rattle.datum_form.specs.Data.{Items}
 use Rattle.datum_form.specs.declared.error.FormErr.{FormErr}
 use Rattle.datum_form.specs.declared.error.FormErr.TheVariants as broken
@@ -20,7 +24,7 @@ use Rattle.elf_write.specs.Valid.{IsValid}
 use Rattle.rv_form.specs.declared.image.Image.{Image}
 use Rattle.named_form.specs.Code.{program}
 use Rattle.named_form.specs.PlainPlan.{plain}
-use Rattle.named_form.specs.Valid.{WellFormed}
+use Rattle.named_form.specs.Valid.{Form as NamedForm, WellFormed}
 use Rattle.named_form.specs.Written.{form}
 use Rattle.named_form.specs.declared.plan.Plan.{Plan}
 use Rattle.named_form.specs.declared.program.Named.{Named}
@@ -65,6 +69,17 @@ told_limit limited.NoMemory = NoMemory
 abbrev pub IsRead : List ℕ → Type 0
 IsRead source = (read : Items) × Reads source read
 
+-- the named form of the program in core forms with these forms and literals: its local variables have numbers
+abbrev pub form_of : Trees Var → List Lit → NamedForm
+form_of forms lits = named_form (all_told lits (all_renamed [] 0 forms)) lits
+
+-- a program is the named form of one in core forms, which is not too deep
+pub record IsNamed (named : Named) : Type 0 where
+  pub forms : Trees Var
+  pub lits : List Lit
+  pub shallow : deepest forms ≤ most
+  pub is : form named ≡ form_of forms lits
+
 -- the constraints of a program: those that its rows, its atoms and the list of its rules make
 pub record IsRuled (named : Named) (constraints : Constraints) : Type 0 where
   pub made : IsMadeOf constraints (row_count (form named)) (atom_count (form named)) (rules_of (form named))
@@ -74,6 +89,7 @@ pub record IsRuled (named : Named) (constraints : Constraints) : Type 0 where
 -- The analysis of the program that a text is: its constraints, and their least solution.
 pub record IsAnalysed (source : List ℕ) (analysis : Analysis) : Type 0 where
   pub read : IsRead source
+  pub is_named : IsNamed analysis.named
   pub ruled : IsRuled analysis.named analysis.constraints
   pub solved : IsSolved analysis.constraints analysis.closed
 
@@ -115,6 +131,7 @@ pub record IsImage (flat : Flat) (heap : ℕ) (image : Image) : Type 0 where
 pub record Emitted (source : List ℕ) (heap : ℕ) (file : List ℕ) : Type 0 where
   pub read : IsRead source
   pub named : Named
+  pub is_named : IsNamed named
   pub few : passed (form named) ≡ None
   pub flat : Flat
   pub is_flat : IsFlat named flat
@@ -144,11 +161,12 @@ IsUnlaid flat limited.NoMemory = Unit {0}
 
 -- a limit past which a program is not analysed: its depth, or the first of the analysis that it passes
 abbrev pub PassesEarly : Limit → Type 0
-PassesEarly l = IsTooDeep l ⊎ ((named : Named) × (passed (form named) ≡ Some l))
+PassesEarly l = IsTooDeep l ⊎ ((named : Named) × IsNamed named × (passed (form named) ≡ Some l))
 
 -- a limit past which it has no file: one of these, or that of the image
 abbrev pub PassesLate : Limit → Type 0
-PassesLate l = PassesEarly l ⊎ ((named : Named) × (flat : Flat) × IsFlat named flat × IsTooLarge flat l)
+PassesLate l =
+    PassesEarly l ⊎ ((named : Named) × IsNamed named × (flat : Flat) × IsFlat named flat × IsTooLarge flat l)
 
 -- a refusal of a pass behind the reader, of which these limits may be passed
 abbrev pub IsLater : (Limit → Type 0) → BuildErr → Type 0

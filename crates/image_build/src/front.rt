@@ -4,7 +4,7 @@ ghost use Rattle.std.specs.Prelude.{◌≡◌, None, IfOk, IfErr};
 ghost use Rattle.core_form.specs.Text.{HasText};
 ghost use Rattle.named_form.specs.Written.{form};
 ghost use Rattle.flow_constraints.specs.Limits.{passed};
-ghost use Rattle.image_build.specs.Emitted.{IsLater, IsRead, IsRuled, PassesEarly, Unanalysed};
+ghost use Rattle.image_build.specs.Emitted.{IsLater, IsNamed, IsRead, IsRuled, PassesEarly, Unanalysed};
 
 use crate::BuildErr;
 use crate::error::{form_error, limit_error, read_error};
@@ -22,6 +22,7 @@ use std::alloc::Global;
 /// The named form of the program that a text is.
 pub(crate) fn named_of(alloc: Global, source: &[u8]) -> Result<Named, BuildErr>
     ensures read { IfOk result (λ named. IsRead source.now) }
+    ensures is_named { IfOk result IsNamed }
     ensures refused { IfErr result (λ error. Unanalysed source.now error) }
 {
     let data = match read_program(alloc, source) {
@@ -33,7 +34,8 @@ pub(crate) fn named_of(alloc: Global, source: &[u8]) -> Result<Named, BuildErr>
 
 /// The named form of the program that some data are.
 fn named_data(alloc: Global, data: &Datums) -> Result<Named, BuildErr>
-    ensures { IfErr result (IsLater PassesEarly) }
+    ensures is_named { IfOk result IsNamed }
+    ensures refused { IfErr result (IsLater PassesEarly) }
 {
     let core = match expand(alloc, data) {
         Ok(core) => core,
@@ -45,7 +47,8 @@ fn named_data(alloc: Global, data: &Datums) -> Result<Named, BuildErr>
 /// The named form of a core.
 fn named_core(alloc: Global, core: &Core) -> Result<Named, BuildErr>
     requires { HasText core.now }
-    ensures { IfErr result (IsLater PassesEarly) }
+    ensures is_named { IfOk result IsNamed }
+    ensures refused { IfErr result (IsLater PassesEarly) }
 {
     let renamed = match rename(alloc, core) {
         Ok(renamed) => renamed,
@@ -60,6 +63,7 @@ fn named_core(alloc: Global, core: &Core) -> Result<Named, BuildErr>
 /// The named form of the program that a text is, if it passes no limit of the analysis.
 pub(crate) fn accepted(alloc: Global, source: &[u8]) -> Result<Named, BuildErr>
     ensures read { IfOk result (λ named. IsRead source.now) }
+    ensures is_named { IfOk result IsNamed }
     ensures few { IfOk result (λ named. passed (form named) ≡ None) }
     ensures refused { IfErr result (λ error. Unanalysed source.now error) }
 {
@@ -75,6 +79,7 @@ pub(crate) fn accepted(alloc: Global, source: &[u8]) -> Result<Named, BuildErr>
 
 /// The constraints of a program.
 pub(crate) fn constraints_of(alloc: Global, named: &Named) -> Result<Constraints, BuildErr>
+    requires { IsNamed named.now }
     ensures ruled { IfOk result (IsRuled named.now) }
     ensures refused { IfErr result (IsLater PassesEarly) }
 {

@@ -5,4 +5,5 @@ use Rattle.image_build.proofs.front.constraints_of.Goals as goal
 
 pub returns-in-Err-clause-refused : goal.returns-in-Err-clause-refused
 returns-in-Err-clause-refused c =
-    subst (IsLater PassesEarly) (sym c.limit_error.ensures) (too_many c.args.named.now c.in-Err.error c.in-Err.ensures.refused)
+    subst (IsLater PassesEarly) (sym c.limit_error.ensures)
+    (too_many c.args.named.now c.in-Err.error c.requires c.in-Err.ensures.refused)
