@@ -25,7 +25,7 @@ use Rattle.rv_emulator.specs.Loading.{AreFit, IsLoadable, room_of}
 use Rattle.rv_emulator.specs.Plays.{Plays}
 use Rattle.stalin_top.specs.declared.answer.Answer.{Answer}
 use Rattle.stalin_top.specs.declared.answer.Answer.TheVariants.{Done, Usage, Refused, TooLarge, FileFault, ConsoleFault, BadImage, Spent, Trapped, Image, NoMemory}
-use Rattle.stalin_top.specs.Emulate.{run_of, IsAnswerTo, IsEmulated, IsRun, IsFile, Emulation, IsOfRun, ImageCauses, IsAskedForImage, Emulates}
+use Rattle.stalin_top.specs.Emulate.{run_of, IsAnswerTo, IsEmulated, IsNoImage, IsRun, IsFile, Emulation, IsOfRun, ImageCauses, IsAskedForImage, Emulates}
 use Rattle.stalin_top.specs.Outside.{Outside, IfTold}
 
 -- Loading
@@ -95,6 +95,26 @@ emulated bytes image steps from to before now end held starts plays is environme
           (sym is)
           (comes_after steps to (calls_with env (no_calls env) plays.made)));
     }
+
+-- bytes of which there is no machine show nothing
+pub not_run : (bytes : List ℕ) (steps : ℕ) (answer : Answer) (told : Told) → IsNoImage bytes answer
+    → IsRun bytes steps answer told told
+not_run bytes steps (BadImage err) told why = (why.0, why.1, refl)
+not_run bytes steps NoMemory told why = refl
+not_run bytes steps Done told why = absurd why
+not_run bytes steps (Usage word) told why = absurd why
+not_run bytes steps (TooLarge limit) told why = absurd why
+not_run bytes steps FileFault told why = absurd why
+not_run bytes steps ConsoleFault told why = absurd why
+not_run bytes steps (Refused refusal) told why = absurd why
+not_run bytes steps (Spent n) told why = absurd why
+not_run bytes steps (Trapped kind pc) told why = absurd why
+not_run bytes steps (Image status) told why = absurd why
+
+-- what is answered to bytes is no fault of a file
+pub no_fault : (bytes : List ℕ) (steps : ℕ) (answer : Answer) (before now : Told) → IsRun bytes steps answer before now
+    → answer ≡ FileFault → ⊥
+no_fault bytes steps answer before now run is = subst (λ a. IsRun bytes steps a before now) is run
 
 -- The whole command
 

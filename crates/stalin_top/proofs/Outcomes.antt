@@ -1,6 +1,8 @@
 -- What an answer to `compile` or `run` says, from what building the image and then writing or emulating it gave.
-use Rattle.std.proofs.Common.{ℕ, ◌<◌, ◌≤◌, ◌^◌, ◌⊎◌, length, arith, ◌≡◌, ◌≢◌, refl, sym, ap, subst, ◌∙◌, List, Option, Some, None, inl, inr, ⊎_elim}
+use Rattle.std.proofs.Common.{ℕ, ◌<◌, ◌≤◌, ◌^◌, ◌⊎◌, length, arith, ◌≡◌, ◌≢◌, refl, sym, ap, subst, ◌∙◌, List, ◌∷◌, Option, Some, None, inl, inr, ⊎_elim}
 use Rattle.stalin_outside.specs.Console.{Told}
+use Rattle.stalin_outside.specs.declared.shelf.Ask.{Ask}
+use Rattle.stalin_outside.specs.declared.shelf.Ask.TheVariants.{ToRead}
 use Rattle.stalin_outside.specs.Shelf.{Files, ChangesOnly, WhereTold, SameFiles}
 use Rattle.stalin_outside.specs.WholeFiles.{WritesFile, HoldsFront}
 use Rattle.stalin_outside.specs.declared.whole_files.Writing.TheVariants as writes
@@ -158,6 +160,21 @@ pub ran : (files : Option Files) (source bytes slice : List ℕ) (heap steps : �
     → runs.Outcome files source heap steps answer before now
 ran files source bytes slice heap steps answer before now built is run =
     ran_bytes files source bytes heap steps answer before now built (subst (λ b. emulations.IsRun b steps answer before now) is run)
+
+-- a source that was asked for alone
+pub asked : (source : List ℕ) (answer : Answer) (before now : List Ask) → now ≡ ToRead source ∷ before
+    → AsksSource source answer before now
+asked source NoMemory before now is = inr is
+asked source Done before now is = is
+asked source (Usage word) before now is = is
+asked source (TooLarge limit) before now is = is
+asked source FileFault before now is = is
+asked source ConsoleFault before now is = is
+asked source (Refused refusal) before now is = is
+asked source (BadImage err) before now is = is
+asked source (Spent n) before now is = is
+asked source (Trapped kind pc) before now is = is
+asked source (Image status) before now is = is
 
 pub run_stopped : (files : Option Files) (source : List ℕ) (heap steps : ℕ) (answer : Answer) (told : Told)
     → StopsAs files source heap answer → runs.Outcome files source heap steps answer told told

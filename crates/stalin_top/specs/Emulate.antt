@@ -25,7 +25,7 @@ use Rattle.rv_form.specs.Machine as runs
 use Rattle.elf_write.specs.declared.error.ElfErr.{ElfErr}
 use Rattle.elf_write.specs.declared.error.ElfErr.TheVariants as breaks
 use Rattle.elf_write.specs.Reading.{HoldsImage, Breaks}
-use Rattle.rv_emulator.specs.Held.{settled}
+use Rattle.rv_emulator.specs.Held.{Held, StartsAs, settled}
 use Rattle.stalin_top.specs.Answer.{Yields}
 use Rattle.stalin_top.specs.Outside.{Outside, IfTold}
 use Rattle.stalin_top.specs.declared.answer.Answer.{Answer}
@@ -57,6 +57,18 @@ pub record IsEmulated (bytes : List ℕ) (steps : ℕ) (answer : Answer) (before
   pub env : Env
   pub of_env : IsOf made env
   pub shows : Shows made before now
+
+-- a machine is at the start of the image that the bytes of a file are
+pub record Begins (bytes : List ℕ) (held : Held) : Type 0 where
+  pub image : Loaded
+  pub holds : HoldsImage bytes image
+  pub starts : StartsAs image held
+
+-- why there is no machine: a check of images that the bytes break, or want of memory
+abbrev pub IsNoImage : (bytes : List ℕ) → Answer → Type 0
+IsNoImage bytes (BadImage err) = Breaks bytes err × (err ≢ breaks.NoMemory)
+IsNoImage bytes NoMemory = Unit {0}
+IsNoImage bytes answer = ⊥
 
 -- what is answered to the bytes of an image file, and what the console tells before and after
 abbrev pub IsRun : (bytes : List ℕ) (steps : ℕ) → Answer → (before now : Told) → Type 0

@@ -1,12 +1,15 @@
-ghost use Rattle.std.specs.Prelude.{◌≡◌, ◌≤◌, ◌^◌, length};
+ghost use Rattle.std.specs.Prelude.{◌≡◌, ◌≤◌, ◌^◌, length, IfOk, IfErr};
+ghost use Rattle.elf_write.specs.Reading.{HoldsImage};
+ghost use Rattle.elf_write.specs.Valid.{IsValid};
 ghost use Rattle.stalin_outside.specs.Causes.{HasCause};
 ghost use Rattle.stalin_outside.specs.Shelf.{SameFiles};
-ghost use Rattle.stalin_top.specs.Emulate.{Emulation, IsAskedForImage, IsRun};
+ghost use Rattle.stalin_top.specs.Emulate.{Begins, Emulation, IsAskedForImage, IsNoImage, IsRun};
 
 use crate::Answer;
 use elf_write::ElfErr;
-use rv_emulator::{RunEnd, load};
-use scheme_base::{Limit, LimitKind};
+use rv_emulator::{Machine, RunEnd, load};
+use rv_form::Image;
+use scheme_base::{Bytes, Limit, LimitKind};
 use stalin_outside::{
     Console, Reading, Shelf, answers_are_of_an_environment, console_shows_the_trace, read_file,
 };
@@ -36,7 +39,7 @@ pub(crate) fn emulate<H: Shelf, C: Console>(
         (C.told console.old) (C.told console.new) }
 {
     match read_file(alloc, shelf, image, MOST) {
-        Reading::Whole(file) => emulate_file(alloc, console, file.as_slice(), steps),
+        Reading::Whole(file) => emulate_file(alloc, console, file, steps),
         Reading::TooLong => Answer::TooLarge(LIMIT),
         Reading::Fault => Answer::FileFault,
         Reading::NoMemory => Answer::NoMemory,
@@ -47,19 +50,15 @@ pub(crate) fn emulate<H: Shelf, C: Console>(
 pub(crate) fn emulate_file<C: Console>(
     alloc: Global,
     console: &mut C,
-    bytes: &[u8],
+    bytes: Bytes,
     steps: u64,
 ) -> Answer
-    ensures { IsRun bytes.now steps result
+    ensures { IsRun bytes steps result
         (C.told console.old) (C.told console.new) }
 {
-    let image = match elf_write::read(alloc, bytes) {
-        Ok(image) => image,
-        Err(ElfErr::NoMemory) => return Answer::NoMemory,
-        Err(err) => return Answer::BadImage(err),
-    };
-    let Ok(mut machine) = load(alloc, &image) else {
-        return Answer::NoMemory;
+    let mut machine = match machine_of(alloc, bytes) {
+        Ok(machine) => machine,
+        Err(answer) => return answer,
     };
     answers_are_of_an_environment();
     console_shows_the_trace();
@@ -67,5 +66,42 @@ pub(crate) fn emulate_file<C: Console>(
         RunEnd::Ended { status } => Answer::Image { status },
         RunEnd::Spent { steps } => Answer::Spent { steps },
         RunEnd::Trapped { kind, pc } => Answer::Trapped { kind, pc },
+    }
+}
+
+/// The machine at the start of the image that the bytes of a file are, or why there is none. The bytes are dropped
+/// before it is made, and the image before it runs.
+fn machine_of(alloc: Global, bytes: Bytes) -> Result<Machine, Answer>
+    ensures machine { IfOk result (Begins bytes) }
+    ensures answer { IfErr result (IsNoImage bytes) }
+{
+    let image = match read_image(alloc, bytes) {
+        Ok(image) => image,
+        Err(answer) => return Err(answer),
+    };
+    match load(alloc, &image) {
+        Ok(machine) => Ok(machine),
+        Err(_) => Err(Answer::NoMemory),
+    }
+}
+
+/// The image that the bytes of a file are, which are dropped, or why there is none.
+fn read_image(alloc: Global, bytes: Bytes) -> Result<Image, Answer>
+    ensures image { IfOk result (HoldsImage bytes) }
+    ensures valid { IfOk result IsValid }
+    ensures answer { IfErr result (IsNoImage bytes) }
+{
+    image_of(alloc, bytes.as_slice())
+}
+
+fn image_of(alloc: Global, bytes: &[u8]) -> Result<Image, Answer>
+    ensures image { IfOk result (HoldsImage bytes.now) }
+    ensures valid { IfOk result IsValid }
+    ensures answer { IfErr result (IsNoImage bytes.now) }
+{
+    match elf_write::read(alloc, bytes) {
+        Ok(image) => Ok(image),
+        Err(ElfErr::NoMemory) => Err(Answer::NoMemory),
+        Err(err) => Err(Answer::BadImage(err)),
     }
 }

@@ -21,8 +21,6 @@ mod sending;
 mod shape;
 mod source;
 mod table;
-#[cfg(test)]
-mod tests;
 mod top;
 
 pub use answer::{Answer, Refusal, status};

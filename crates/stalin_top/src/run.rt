@@ -8,6 +8,7 @@ ghost use Rattle.stalin_top.specs.Source.{AsksSource};
 use crate::Answer;
 use crate::emulate::emulate_file;
 use crate::source::build_source;
+use scheme_base::Bytes;
 use stalin_outside::{Console, Gate, Shelf};
 use std::alloc::{AllocGlobal, Global};
 use std::thread::Threads;
@@ -32,7 +33,7 @@ pub(crate) fn run<R: AllocGlobal + Threads + Sync, H: Shelf, C: Console, G: Gate
     ensures cause { HasCause (H.faults shelf.old) (H.faults shelf.new) (result ≡ Answer.FileFault) }
 {
     match build_source(rt, alloc, shelf, source, workers, heap, gate) {
-        Ok(bytes) => emulate_file(alloc, console, bytes.as_slice(), steps),
+        Ok(bytes) => emulate_file(alloc, console, Bytes::from_vec(bytes), steps),
         Err(answer) => answer,
     }
 }
