@@ -10,8 +10,6 @@ mod name;
 mod renamer;
 mod renaming;
 mod scope;
-#[cfg(test)]
-mod tests;
 
 pub use copy::copy_lits;
 pub use name::Name;

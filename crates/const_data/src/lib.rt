@@ -7,8 +7,6 @@
 mod arguments;
 mod names;
 mod offsets;
-#[cfg(test)]
-mod tests;
 mod word;
 mod words;
 

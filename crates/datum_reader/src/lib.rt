@@ -24,8 +24,6 @@ mod piece;
 mod read;
 mod reading;
 mod string;
-#[cfg(test)]
-mod tests;
 mod token;
 mod word;
 

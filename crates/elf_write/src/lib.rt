@@ -10,8 +10,6 @@ mod fields;
 mod header;
 mod reading;
 mod segments;
-#[cfg(test)]
-mod tests;
 mod writing;
 
 pub use error::ElfErr;

@@ -12,8 +12,6 @@ mod race;
 mod rule;
 mod seat;
 mod solve;
-#[cfg(test)]
-mod tests;
 
 pub use race::{IllegalEvent, MOST_WORKERS, Race};
 pub use solve::{chain, solve_plain};

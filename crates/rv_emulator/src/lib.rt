@@ -16,6 +16,3 @@ mod trap;
 
 pub use machine::{Machine, load};
 pub use next::RunEnd;
-
-#[cfg(test)]
-mod tests;

@@ -12,6 +12,3 @@ mod laws;
 pub use decoding::decode;
 pub use encoding::encode;
 pub use laws::{decoded_is_encoded, encoded_is_decoded};
-
-#[cfg(test)]
-mod tests;

@@ -25,8 +25,6 @@ mod lit;
 mod op;
 mod place;
 mod pos;
-#[cfg(test)]
-mod tests;
 mod words;
 
 pub use atom::{write_boolean, write_character, write_integer, write_string};

@@ -35,6 +35,3 @@ pub use sending::{print, print_all, send, send_all};
 pub use shelf::{Ask, Begun, Got, Kind, Shelf, Took};
 pub use streams::StdConsole;
 pub use whole_files::{Reading, Writing, read_file, write_file};
-
-#[cfg(test)]
-mod tests;

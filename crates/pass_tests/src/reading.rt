@@ -1,7 +1,9 @@
+//! Texts with their data or their first faults.
+
 mod rows;
 
-use crate::{ReadErr, read_program};
 use datum_form::write_text;
+use datum_reader::{ReadErr, read_program};
 use std::alloc::Global;
 use std::test::Fail;
 

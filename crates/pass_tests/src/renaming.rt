@@ -1,4 +1,6 @@
-use crate::rename;
+//! Renamed cores: shared expressions, and the depth that is refused.
+
+use alpha_core::rename;
 use core_form::{Core, Expr, Var, VarRef, What};
 use scheme_base::{Bytes, Ids, LimitErr, LimitKind, List, Pos};
 use std::alloc::{AllocError, Global};

@@ -1,5 +1,7 @@
-use crate::{IllegalEvent, Race, chain, solve_plain};
+//! Constraints that one worker solves, and what a race allows.
+
 use flow_form::{Constraints, Event, Give, Rule, Rules, Test, no_pairs};
+use flow_plain::{IllegalEvent, Race, chain, solve_plain};
 use std::alloc::Global;
 use std::test::Fail;
 

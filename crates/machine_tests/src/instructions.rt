@@ -1,4 +1,6 @@
-use crate::{decode, encode};
+//! Each instruction and its word, both ways.
+
+use rv_encode::{decode, encode};
 use rv_form::Instr;
 
 /// Each instruction, and its word as `tools/instruction_words.py` has it from the GNU assembler.

@@ -1,4 +1,6 @@
-use crate::{Label, Word, static_words};
+//! The data words of a small flat program.
+
+use const_data::{Label, Word, static_words};
 use flat_form::{Cells, Flat, FlatParts, FlatProc, FlatProcs};
 use scheme_base::{Bytes, Ids, Lit, Lits};
 use std::alloc::{AllocError, Global};

@@ -1,4 +1,6 @@
-use crate::{
+//! Files and streams, real ones and those in memory.
+
+use stalin_outside::{
     Begun, Console, FileShelf, Gate, Got, In, MemConsole, MemShelf, OpenGate, Out, Reading, Shelf,
     StdConsole, Took, Writing, print, read_file, send_all, write_file,
 };

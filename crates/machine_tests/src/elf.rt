@@ -3,7 +3,7 @@
 ghost use Rattle.std.specs.Prelude.{◌≡◌, IfOk};
 ghost use Rattle.elf_write.specs.Valid.{IsValid};
 
-use crate::{ElfErr, Image, Segment, read, write};
+use elf_write::{ElfErr, Image, Segment, read, write};
 use scheme_base::{Bytes, List, Numbers};
 use std::alloc::{AllocError, Global};
 use std::test::Fail;

@@ -1,8 +1,10 @@
+//! Runs of small images, and a table of instructions with their results.
+
 ghost use Rattle.std.specs.Prelude.{◌≤◌, IfOk, length};
 ghost use Rattle.rv_emulator.specs.Loading.{IsLoadable};
 
-use crate::{RunEnd, load};
 use results::{HARNESS, RESULTS, SLOT};
+use rv_emulator::{RunEnd, load};
 use rv_form::{Image, Segment, Segments};
 use scheme_base::Bytes;
 use stalin_outside::MemConsole;

@@ -1,4 +1,6 @@
-use crate::{
+//! Words, lists, operations, atoms and positions.
+
+use scheme_base::{
     ErrKind, List, Op, Pos, Words, write_boolean, write_character, write_integer, write_string,
 };
 use std::test::Fail;

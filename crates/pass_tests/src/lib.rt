@@ -1,0 +1,18 @@
+//! Examples and tables for the passes' public calls, from the text to the solved constraints. They stand in a
+//! crate of their own, so that no pass is proved a second time for its tests.
+#![tactic(auto)]
+
+#[cfg(test)]
+mod expansion;
+#[cfg(test)]
+mod naming;
+#[cfg(test)]
+mod plain_solution;
+#[cfg(test)]
+mod reading;
+#[cfg(test)]
+mod renaming;
+#[cfg(test)]
+mod rules;
+#[cfg(test)]
+mod workers;
