@@ -72,7 +72,7 @@ fn link(row: u32) -> Rule
     }
 }
 
-/// Atom 0 to row 0, and from each of a hundred rows to the next, as a round in the order of the rules does it.
+/// An atom to the first row, and from each of a hundred rows to the next, as a round in the order of the rules does it.
 fn with_the_order(alloc: Global) -> Result<Rules, Fail> {
     let mut rules = Rules::new(alloc);
     rules.push(always(Give::Atom(0), 0))?;
