@@ -13,8 +13,8 @@ use Rattle.core_form.specs.Trees.{Tree, Const, Lambda, If, Set, Call, Prim, Seq,
 use Rattle.alpha_core.specs.declared.scope.Scope.{Scope as Held}
 use Rattle.alpha_core.specs.declared.renamer.Renamer.{Renamer}
 use Rattle.alpha_core.specs.Renaming.{past, past_all, past_rest, refer, renamed, all_renamed, locals, local_rest, with_rest}
-use Rattle.alpha_core.specs.Seen.{Shows}
-use Rattle.alpha_core.specs.Steps.{Renames, RenamesAll, Adds, Makes, MakesAll, Binds}
+use Rattle.alpha_core.specs.ScopesHeld.{Shows}
+use Rattle.alpha_core.specs.RenamingSteps.{Renames, RenamesAll, Adds, Makes, MakesAll, Binds}
 use Rattle.alpha_core.proofs.Standing.{get_last, stands_more, stand_more}
 
 abbrev Longer : List (Node VarRef) → List (Node VarRef) → Type 0

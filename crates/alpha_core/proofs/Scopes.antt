@@ -10,7 +10,7 @@ use Rattle.alpha_core.specs.declared.name.Name.{Name}
 use Rattle.alpha_core.specs.declared.scope.Binding.{Binding}
 use Rattle.alpha_core.specs.declared.scope.Scope.{Scope as Held}
 use Rattle.alpha_core.specs.Names.{var_of, same_name}
-use Rattle.alpha_core.specs.Seen.{seen, outers, flat, Shows}
+use Rattle.alpha_core.specs.ScopesHeld.{seen, outers, flat, Shows}
 use Rattle.alpha_core.proofs.Names.{name_decides, name_tells}
 
 last_first : (items rest : List Binding) (b : Binding) → items ≡ rest ++ b ∷ [] → reverse items ≡ b ∷ reverse rest

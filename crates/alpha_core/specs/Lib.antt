@@ -3,5 +3,5 @@ pub mod Depth
 pub mod Levels
 pub mod Names
 pub mod Renaming
-pub mod Seen
-pub mod Steps
+pub mod ScopesHeld
+pub mod RenamingSteps

@@ -2,7 +2,7 @@ ghost use Rattle.std.specs.Prelude.{◌≡◌, ◌∷◌, ◌+◌, length, IfOk,
 ghost use Rattle.core_form.specs.declared.program.VarRef.TheVariants as ref;
 ghost use Rattle.core_form.specs.Source.{scope_with};
 ghost use Rattle.alpha_core.specs.Renaming.{locals, local_rest, past_rest, with_rest};
-ghost use Rattle.alpha_core.specs.Steps.{Binds};
+ghost use Rattle.alpha_core.specs.RenamingSteps.{Binds};
 
 use crate::renamer::Renamer;
 use core_form::{Var, VarRef, Vars};

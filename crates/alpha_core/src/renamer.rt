@@ -3,8 +3,8 @@ ghost use Rattle.core_form.specs.declared.program.Var.{Var};
 ghost use Rattle.core_form.specs.Source.{Scope as Seen};
 ghost use Rattle.core_form.specs.Trees.{Tree, Trees, Ref, Lambda, If, Set, Call, Prim, Seq, Fix, Define, Stands, StandAll};
 ghost use Rattle.alpha_core.specs.Renaming.{refer};
-ghost use Rattle.alpha_core.specs.Seen.{Shows};
-ghost use Rattle.alpha_core.specs.Steps.{Adds, Makes, MakesAll};
+ghost use Rattle.alpha_core.specs.ScopesHeld.{Shows};
+ghost use Rattle.alpha_core.specs.RenamingSteps.{Adds, Makes, MakesAll};
 
 use crate::copy::copy_var;
 use crate::scope::Scope;

@@ -3,7 +3,7 @@ ghost use Rattle.std.specs.Map.{lookup};
 ghost use Rattle.core_form.specs.declared.program.Var.{Var};
 ghost use Rattle.core_form.specs.Source.{Scope as Seen};
 ghost use Rattle.core_form.specs.Variables.{same_var};
-ghost use Rattle.alpha_core.specs.Seen.{Shows};
+ghost use Rattle.alpha_core.specs.ScopesHeld.{Shows};
 
 use crate::name::Name;
 use core_form::Var;

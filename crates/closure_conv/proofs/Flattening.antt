@@ -10,7 +10,7 @@ use Rattle.named_form.specs.declared.program.Block.{Block, out-Block}
 use Rattle.named_form.specs.declared.program.Step.{Step}
 use Rattle.named_form.specs.Code.{Ends, Counts, past, past_arms, ends_with, in_tail, labelled, labelled_act, single}
 use Rattle.closure_conv.specs.FlatOf.{Scene, homes, known, flat_code, flat_act}
-use Rattle.closure_conv.specs.Steps.{act_of, label}
+use Rattle.closure_conv.specs.StepTypes.{act_of, label}
 use Rattle.closure_conv.proofs.Linked.{linked, left, left_is, step_is}
 
 -- a step at the end of what is done goes before what is left

@@ -8,7 +8,7 @@ use Rattle.named_form.specs.declared.program.Block.{Block, out-Block, fold_out-B
 use Rattle.named_form.specs.declared.program.Step.{Step, fold_out-Step}
 use Rattle.named_form.specs.Code.{Code, Act, Ends, Then, Counts, past, past_code, past_arms, binds, arms_bind}
 use Rattle.named_form.specs.Written.{code, Onto, all_onto, act_layer, block_layer, step_layer}
-use Rattle.closure_conv.specs.Steps.{act_of, step_of}
+use Rattle.closure_conv.specs.StepTypes.{act_of, step_of}
 
 -- these steps, and then the end of the block
 abbrev pub linked : List Step → Option ℕ → Code Pos

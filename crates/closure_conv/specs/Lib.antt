@@ -1,3 +1,3 @@
 pub mod FlatOf
 pub mod Tables
-pub mod Steps
+pub mod StepTypes

@@ -9,7 +9,7 @@ ghost use Rattle.named_form.specs.Code.{Ends, past, past_code, past_arms, ends_w
 ghost use Rattle.named_form.specs.Written.{code};
 ghost use Rattle.named_form.specs.ValidPlan.{block_reached};
 ghost use Rattle.closure_conv.specs.FlatOf.{homes, known, flat_code, flat_act as act_in, arm as arm_in};
-ghost use Rattle.closure_conv.specs.Steps.{act_of, label};
+ghost use Rattle.closure_conv.specs.StepTypes.{act_of, label};
 ghost use Rattle.closure_conv.specs.Tables.{Runs, scene, counts};
 
 use crate::act::{apply, call, call_cc, choice, closure, fix, prim, set_box, top_define, top_set};

@@ -3,7 +3,7 @@
 ghost use Rattle.std.specs.Prelude.{◌≡◌, ◌+◌, IfOk};
 ghost use Rattle.named_form.specs.Code.{makes as makes_object, sites_of as sites_in, arms_of as arms_in, past, past_code, past_arms};
 ghost use Rattle.named_form.specs.Written.{code};
-ghost use Rattle.closure_conv.specs.Steps.{act_of};
+ghost use Rattle.closure_conv.specs.StepTypes.{act_of};
 ghost use Rattle.closure_conv.specs.Tables.{counts, next_block};
 
 use named_form::{Act, Block};

@@ -8,7 +8,7 @@ ghost use Rattle.named_form.specs.Written.{code, procedure};
 ghost use Rattle.named_form.specs.Storage.{keeps as kept_by, mark_of as mark_at};
 ghost use Rattle.named_form.specs.ValidPlan.{use_of as use_at, block_reached, repr_of};
 ghost use Rattle.closure_conv.specs.FlatOf.{home, homes, is_raw as is_bare, cell_or, slot_or, kept_or_none};
-ghost use Rattle.closure_conv.specs.Steps.{act_of};
+ghost use Rattle.closure_conv.specs.StepTypes.{act_of};
 ghost use Rattle.closure_conv.specs.Tables.{Rests, Runs, scene, number_of, has_slot, value_at, home_in};
 
 use crate::numbering::Numbering;

@@ -5,7 +5,7 @@ use Rattle.rv_form.specs.declared.image.Segment.{Segment}
 use Rattle.elf_write.specs.Valid.{IsSegment, AreSegments, memory_size, IsValid}
 use Rattle.elf_write.specs.File.{header_bytes, program_header_bytes, page_from, segment_headers, segment_bytes, file_of}
 use Rattle.elf_write.specs.Reading.{HoldsImage}
-use Rattle.elf_write.proofs.Back.{reads_back, length_headers, page_near}
+use Rattle.elf_write.proofs.WrittenIsRead.{reads_back, length_headers, page_near}
 
 pub file_joined : (image : Image) (start head headers file : List ℕ) → start ≡ []
     → head ≡ start ++ header_bytes image.entry (length image.segments)

@@ -1,5 +1,5 @@
 pub mod Loading
 pub mod Validity
 pub mod Answers
-pub mod Back
+pub mod WrittenIsRead
 pub mod Joined

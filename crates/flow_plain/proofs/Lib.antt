@@ -1,4 +1,4 @@
 pub mod Rules
-pub mod Seen
+pub mod BitsFollowing
 pub mod States
-pub mod Steps
+pub mod PlainSteps

@@ -3,52 +3,9 @@
 use crate::row::{Ends, Row, Step, Value};
 use datum_form::{Kind, Nodes};
 use rv_asm::Routine;
-use scheme_base::{Bytes, ErrKind, List, Mark, Op};
+use scheme_base::{Bytes, ErrKind, List, Mark, OPERATIONS};
 use std::alloc::Global;
 use std::io;
-
-/// All operations.
-const OPERATIONS: [Op; 39] = [
-    Op::Eqv,
-    Op::IsPair,
-    Op::IsSymbol,
-    Op::IsString,
-    Op::IsVector,
-    Op::IsProcedure,
-    Op::IsInteger,
-    Op::IsChar,
-    Op::IsBoolean,
-    Op::IsNull,
-    Op::IsEof,
-    Op::Cons,
-    Op::Car,
-    Op::Cdr,
-    Op::SetCar,
-    Op::SetCdr,
-    Op::Add,
-    Op::Subtract,
-    Op::Multiply,
-    Op::Quotient,
-    Op::Remainder,
-    Op::Modulo,
-    Op::Equals,
-    Op::Less,
-    Op::CharToInteger,
-    Op::IntegerToChar,
-    Op::SymbolName,
-    Op::MakeSymbol,
-    Op::MakeString,
-    Op::MakeVector,
-    Op::StringLength,
-    Op::VectorLength,
-    Op::StringRef,
-    Op::VectorRef,
-    Op::StringSet,
-    Op::VectorSet,
-    Op::ReadChar,
-    Op::PeekChar,
-    Op::WriteChar,
-];
 
 /// All errors.
 const ERRORS: [ErrKind; 9] = [

@@ -34,7 +34,7 @@ pub use law::{heaps, operations, runs};
 pub use limit::{Limit, LimitKind};
 pub use list::List;
 pub use lit::{Lit, Lits};
-pub use op::Op;
+pub use op::{OPERATIONS, Op};
 pub use place::{Mark, Stated};
 pub use pos::Pos;
 pub use words::Words;

@@ -48,6 +48,51 @@ pub enum Op {
     CallCC,
 }
 
+/// All operations, in their order.
+pub const OPERATIONS: [Op; 41] = [
+    Op::Eqv,
+    Op::IsPair,
+    Op::IsSymbol,
+    Op::IsString,
+    Op::IsVector,
+    Op::IsProcedure,
+    Op::IsInteger,
+    Op::IsChar,
+    Op::IsBoolean,
+    Op::IsNull,
+    Op::IsEof,
+    Op::Cons,
+    Op::Car,
+    Op::Cdr,
+    Op::SetCar,
+    Op::SetCdr,
+    Op::Add,
+    Op::Subtract,
+    Op::Multiply,
+    Op::Quotient,
+    Op::Remainder,
+    Op::Modulo,
+    Op::Equals,
+    Op::Less,
+    Op::CharToInteger,
+    Op::IntegerToChar,
+    Op::SymbolName,
+    Op::MakeSymbol,
+    Op::MakeString,
+    Op::MakeVector,
+    Op::StringLength,
+    Op::VectorLength,
+    Op::StringRef,
+    Op::VectorRef,
+    Op::StringSet,
+    Op::VectorSet,
+    Op::ReadChar,
+    Op::PeekChar,
+    Op::WriteChar,
+    Op::Apply,
+    Op::CallCC,
+];
+
 impl Op {
     /// The name in the library's text. No name of a program begins so.
     pub fn name(self) -> &'static str

@@ -12,7 +12,7 @@ use Rattle.flow_form.proofs.Least.{least_named, least_of_restart}
 use Rattle.type_table.specs.declared.shared_words.View.{View}
 use Rattle.type_table.specs.SharedWords.{IsRuled}
 use Rattle.type_table.specs.Tables.{IsAnswer}
-use Rattle.type_table.proofs.Steps.{is_worker, ruled_sound}
+use Rattle.type_table.proofs.StepsAreMoves.{is_worker, ruled_sound}
 
 -- ---- words that are copied
 take_found :

@@ -1,4 +1,4 @@
 pub mod Closing
 pub mod OneRule
 pub mod Passes
-pub mod Steps
+pub mod StepsAreMoves

@@ -12,7 +12,7 @@ use Rattle.flow_form.proofs.Words.{bit_kept, bit_new, member_more, or_words_at}
 use Rattle.type_table.specs.declared.shared_words.View.{View}
 use Rattle.type_table.specs.SharedWords.{joined_view, with_worker}
 use Rattle.type_table.specs.Tables.{Held, IsHeld, IsOf, Opened, knowing}
-use Rattle.type_table.proofs.Steps.{own_joined}
+use Rattle.type_table.proofs.StepsAreMoves.{own_joined}
 
 member_with :
     (words : List ℕ) (block k : ℕ) → block / 64 < length words

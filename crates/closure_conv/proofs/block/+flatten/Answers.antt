@@ -5,7 +5,7 @@ use Rattle.scheme_base.specs.declared.pos.Pos.{Pos}
 use Rattle.named_form.specs.declared.program.Block.{out-Block}
 use Rattle.named_form.specs.Code.{Ends, past, past_code, past_arms, labelled, labelled_act, single, in_tail, ends_with}
 use Rattle.closure_conv.specs.FlatOf.{flat_code, flat_act, homes, known}
-use Rattle.closure_conv.specs.Steps.{act_of, label}
+use Rattle.closure_conv.specs.StepTypes.{act_of, label}
 use Rattle.closure_conv.specs.Tables.{counts, scene}
 use Rattle.closure_conv.proofs.Linked.{left, code_is, past_one}
 use Rattle.closure_conv.proofs.Flattening.{ends_is, flat_one}

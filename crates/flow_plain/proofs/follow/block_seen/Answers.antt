@@ -5,7 +5,7 @@ use Rattle.flow_form.specs.Least.{Gives, Within}
 use Rattle.flow_form.specs.Race.{Seen}
 use Rattle.flow_form.specs.Shape.{In}
 use Rattle.flow_plain.proofs.Rules.{listed_in, rule_at, rule_here}
-use Rattle.flow_plain.proofs.Seen.{block_all, rule_of_block}
+use Rattle.flow_plain.proofs.BitsFollowing.{block_all, rule_of_block}
 use Rattle.flow_plain.proofs.follow.block_seen.Goals as goal
 
 pub returns-then-not-rule_seen : goal.returns-then-not-rule_seen

@@ -1,7 +1,7 @@
 use Rattle.std.proofs.Common.{◌/◌, ◌%◌, ap, arith, length}
 use Rattle.flow_form.specs.Shape.{stride_of}
 use Rattle.flow_plain.proofs.Rules.{listed_in, rule_here}
-use Rattle.flow_plain.proofs.Seen.{bits_all, bits_more}
+use Rattle.flow_plain.proofs.BitsFollowing.{bits_all, bits_more}
 use Rattle.flow_plain.proofs.follow.following.Goals as goal
 
 pub loop-rule-preserved : goal.loop-rule-preserved

@@ -1,6 +1,6 @@
 use Rattle.flow_form.specs.Least.{Given}
 use Rattle.flow_form.specs.Shape.{In}
-use Rattle.flow_plain.proofs.Seen.{mask_within, within_mask}
+use Rattle.flow_plain.proofs.BitsFollowing.{mask_within, within_mask}
 use Rattle.flow_plain.proofs.follow.follows.Goals as goal
 
 pub returns : goal.returns

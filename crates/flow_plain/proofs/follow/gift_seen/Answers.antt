@@ -1,6 +1,6 @@
 use Rattle.std.proofs.Common.{ℕ, ◌≡◌, ◌+◌, ◌*◌, bit_or, get_or, sym, ◌∙◌, subst, arith}
 use Rattle.std.specs.Int.{bit_at}
-use Rattle.flow_plain.proofs.Seen.{gift_more, part_of_gift}
+use Rattle.flow_plain.proofs.BitsFollowing.{gift_more, part_of_gift}
 use Rattle.flow_plain.proofs.follow.gift_seen.Goals as goal
 
 pub returns-then-not-is_part : goal.returns-then-not-is_part

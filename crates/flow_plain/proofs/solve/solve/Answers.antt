@@ -1,6 +1,6 @@
 use Rattle.std.proofs.Common.{List, ℕ, ◌≡◌, ◌∙◌, sym, length, drop}
 use Rattle.flow_form.specs.Shape.{size_of}
-use Rattle.flow_plain.proofs.Steps.{rows_hold, written_back}
+use Rattle.flow_plain.proofs.PlainSteps.{rows_hold, written_back}
 use Rattle.flow_plain.proofs.solve.solve.Goals as goal
 
 pub returns : goal.returns

@@ -1,6 +1,6 @@
 use Rattle.std.proofs.Common.{sym, ◌∙◌, arith}
 use Rattle.std.proofs.lemmas.Bool.{false≢true}
-use Rattle.flow_plain.proofs.Steps.{step_adds, step_ends}
+use Rattle.flow_plain.proofs.PlainSteps.{step_adds, step_ends}
 use Rattle.flow_plain.proofs.solve.step.Goals as goal
 
 pub returns-then-within : goal.returns-then-within

@@ -1,6 +1,6 @@
 use Rattle.std.proofs.Common.{◌≤◌, ◌*◌, arith}
 use Rattle.flow_form.specs.Shape.{size_of}
-use Rattle.flow_plain.proofs.Steps.{pairs_left, progress_ends, progress_few, progress_start, progress_step}
+use Rattle.flow_plain.proofs.PlainSteps.{pairs_left, progress_ends, progress_few, progress_start, progress_step}
 use Rattle.flow_plain.proofs.solve.take_steps.Goals as goal
 
 pub overflow_add-steps : goal.overflow_add-steps

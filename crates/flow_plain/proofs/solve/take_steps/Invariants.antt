@@ -1,6 +1,6 @@
 use Rattle.std.proofs.Common.{◌-◌, ◌*◌}
 use Rattle.flow_form.specs.Shape.{pairs_in, size_of}
-use Rattle.flow_plain.proofs.Steps.{Progress}
+use Rattle.flow_plain.proofs.PlainSteps.{Progress}
 use Rattle.flow_plain.proofs.solve.take_steps.Given as goal
 
 abbrev pub invariant-loop-steps : goal.invariant-loop-steps

@@ -5,7 +5,7 @@ use Rattle.tail_codegen.specs.Items.{Text, Puts}
 use Rattle.tail_codegen.specs.Templates.{block, ends, labels_in, labels_of, spot_of, step}
 use Rattle.tail_codegen.specs.Written.{end_of, unit}
 use Rattle.tail_codegen.proofs.Linked.{code_is, known_of, left, left_is}
-use Rattle.tail_codegen.proofs.Steps.{reached_items, reached_labels, unreached_items, unreached_labels}
+use Rattle.tail_codegen.proofs.OneStepMore.{reached_items, reached_labels, unreached_items, unreached_labels}
 use Rattle.tail_codegen.proofs.block.+code.Goals as goal
 use Rattle.tail_codegen.proofs.block.+code.Goals.{block-then-step+in_ok-act, block-else-step}
 

@@ -2,7 +2,7 @@ use Rattle.std.proofs.Common.{ℕ, bit_or, subst}
 use mathlib.Core.Option.{none}
 use Rattle.atomic_table.specs.Table.{Allows, step}
 use Rattle.type_table.specs.SharedWords.{Finishes, IsRuled}
-use Rattle.type_table.proofs.Steps.{finish_allowed}
+use Rattle.type_table.proofs.StepsAreMoves.{finish_allowed}
 use Rattle.type_table.proofs.table.finish_as.Goals as goal
 
 pub fetch_or-requires : goal.fetch_or-requires

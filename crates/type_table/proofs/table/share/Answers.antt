@@ -2,7 +2,7 @@ use Rattle.std.proofs.Common.{ℕ, List, [], ◌∷◌, ◌++◌, ◌≡◌, rul
 use Rattle.atomic_table.specs.Table.{opening}
 use Rattle.flow_form.specs.declared.constraints.Constraints.{Constraints}
 use Rattle.type_table.specs.SharedWords.{IsRuled, first_view}
-use Rattle.type_table.proofs.Steps.{opens}
+use Rattle.type_table.proofs.StepsAreMoves.{opens}
 use Rattle.type_table.proofs.table.share.Goals as goal
 
 pub of_words-requires : goal.of_words-requires

@@ -1,7 +1,7 @@
 use Rattle.std.proofs.Common.{rules}
 use Rattle.std.proofs.lemmas.Result.{IfOk-weaker}
 use Rattle.core_form.specs.declared.program.What.TheVariants as form
-use Rattle.alpha_core.specs.Steps.{Makes}
+use Rattle.alpha_core.specs.RenamingSteps.{Makes}
 use Rattle.alpha_core.proofs.Shapes.{node_of, const_tree, ref_tree, lambda_tree, if_tree, set_tree, call_tree, prim_tree, seq_tree, fix_tree, define_tree}
 use Rattle.alpha_core.proofs.Making.{make_const, make_lambda, make_if, make_set, make_call, make_prim, make_seq, make_fix, make_define, list_goes, list_ends}
 use Rattle.alpha_core.proofs.renamer.Renamer.+rename.Goals as goal

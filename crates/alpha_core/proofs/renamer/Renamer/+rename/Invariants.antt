@@ -2,7 +2,7 @@ use Rattle.std.proofs.Common.{◌+◌, ◌*◌, length}
 use Rattle.core_form.specs.declared.program.Var.{Var}
 use Rattle.core_form.specs.Source.{Scope}
 use Rattle.core_form.specs.Trees.{Trees, StandAll}
-use Rattle.alpha_core.specs.Seen.{Shows}
+use Rattle.alpha_core.specs.ScopesHeld.{Shows}
 use Rattle.alpha_core.proofs.Making.{Follows}
 use Rattle.alpha_core.proofs.renamer.Renamer.+rename.Given as goal
 

@@ -2,7 +2,7 @@ use Rattle.std.proofs.Common.{◌≡◌, ◌++◌, ◌+◌, length}
 use Rattle.core_form.specs.declared.program.Var.{Var}
 use Rattle.core_form.specs.Source.{Scope, scope_with}
 use Rattle.alpha_core.specs.Renaming.{locals}
-use Rattle.alpha_core.specs.Seen.{Shows}
+use Rattle.alpha_core.specs.ScopesHeld.{Shows}
 use Rattle.alpha_core.proofs.renamer.Renamer.bind_all.Given as goal
 
 abbrev pub invariant-loop-var : goal.invariant-loop-var

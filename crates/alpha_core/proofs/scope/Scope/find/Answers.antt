@@ -1,7 +1,7 @@
 use Rattle.std.proofs.Common.{ap, ◌∙◌}
 use Rattle.std.specs.Map.{lookup}
 use Rattle.core_form.specs.Variables.{same_var}
-use Rattle.alpha_core.specs.Seen.{flat}
+use Rattle.alpha_core.specs.ScopesHeld.{flat}
 use Rattle.alpha_core.proofs.scope.Scope.find.Goals as goal
 
 pub returns-in-Some : goal.returns-in-Some

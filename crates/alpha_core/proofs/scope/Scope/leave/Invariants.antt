@@ -1,7 +1,7 @@
 use Rattle.std.proofs.Common.{◌≡◌, ◌++◌, length}
 use Rattle.core_form.specs.declared.program.Var.{Var}
 use Rattle.core_form.specs.Source.{Scope as Seen}
-use Rattle.alpha_core.specs.Seen.{Shows}
+use Rattle.alpha_core.specs.ScopesHeld.{Shows}
 use Rattle.alpha_core.proofs.scope.Scope.leave.Given as goal
 
 abbrev pub invariant-loop-self : goal.invariant-loop-self

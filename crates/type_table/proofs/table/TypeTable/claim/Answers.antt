@@ -1,6 +1,6 @@
 use Rattle.std.proofs.Common.{◌≡◌, ◌-◌, arith, rules}
 use Rattle.flow_form.specs.Shape.{size_of}
-use Rattle.type_table.proofs.Steps.{claim_allowed}
+use Rattle.type_table.proofs.StepsAreMoves.{claim_allowed}
 use Rattle.type_table.proofs.table.TypeTable.claim.Goals as goal
 
 pub fetch_add-requires : goal.fetch_add-requires

@@ -5,7 +5,7 @@ use Rattle.flow_form.specs.Shape.{size_of}
 use Rattle.type_table.specs.Tables.{Held, Opened}
 use Rattle.type_table.proofs.Closing.{answers, closes}
 use Rattle.type_table.proofs.Passes.{written_back}
-use Rattle.type_table.proofs.Steps.{split_allowed}
+use Rattle.type_table.proofs.StepsAreMoves.{split_allowed}
 use Rattle.type_table.proofs.table.TypeTable.close.Goals as goal
 
 pub split_seat-facts-requires : goal.split_seat-facts-requires

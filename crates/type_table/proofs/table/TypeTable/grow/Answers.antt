@@ -3,7 +3,7 @@ use Rattle.flow_form.specs.Least.{Given}
 use Rattle.flow_form.specs.Race.{MaskWithin}
 use Rattle.flow_form.specs.Shape.{In, size_of}
 use Rattle.type_table.specs.Tables.{Held, Opened}
-use Rattle.type_table.proofs.Steps.{grow_allowed}
+use Rattle.type_table.proofs.StepsAreMoves.{grow_allowed}
 use Rattle.type_table.proofs.table.TypeTable.grow.Goals as goal
 
 pub fetch_or-requires : goal.fetch_or-requires

@@ -2,7 +2,7 @@ use Rattle.std.proofs.Common.{ℕ, List, length, ◌≡◌, ◌⊎◌, ◌↔◌
 use Rattle.bit_rows.specs.Members.{IsMember}
 use Rattle.type_table.specs.Tables.{IsHeld}
 use Rattle.type_table.proofs.Passes.{held_join, of_joined, written_back}
-use Rattle.type_table.proofs.Steps.{join_allowed}
+use Rattle.type_table.proofs.StepsAreMoves.{join_allowed}
 use Rattle.type_table.proofs.table.TypeTable.join.Goals as goal
 
 pub join_seat-requires : goal.join_seat-requires

@@ -1,6 +1,6 @@
 use Rattle.std.proofs.Common.{◌<◌, arith, rules}
 use Rattle.flow_form.specs.Shape.{size_of}
-use Rattle.type_table.proofs.Steps.{load_allowed}
+use Rattle.type_table.proofs.StepsAreMoves.{load_allowed}
 use Rattle.type_table.proofs.table.TypeTable.load.Goals as goal
 
 pub load-requires : goal.load-requires

@@ -1,5 +1,5 @@
 use Rattle.std.proofs.Common.{arith, rules}
-use Rattle.type_table.proofs.Steps.{split_allowed}
+use Rattle.type_table.proofs.StepsAreMoves.{split_allowed}
 use Rattle.type_table.proofs.table.TypeTable.split.Goals as goal
 
 pub split_seat-seat-requires : goal.split_seat-seat-requires

@@ -9,7 +9,7 @@ use Rattle.core_form.specs.Trees.{Tree, Trees, Stands, StandAll}
 use Rattle.core_form.specs.Source.{Scope}
 use Rattle.alpha_core.specs.declared.renamer.Renamer.{Renamer}
 use Rattle.alpha_core.specs.Renaming.{past, past_all, renamed, all_renamed}
-use Rattle.alpha_core.specs.Seen.{Shows}
+use Rattle.alpha_core.specs.ScopesHeld.{Shows}
 
 -- An expression was renamed in a scope: its variables have the numbers from n up to m, m excluded, and it
 -- stands behind the expressions that were there before.
