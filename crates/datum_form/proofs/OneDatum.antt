@@ -6,10 +6,9 @@ use Rattle.scheme_base.proofs.Lists.{same_item, nil-cons}
 use Rattle.datum_form.specs.declared.datums.Node.{Node}
 use Rattle.datum_form.specs.declared.datums.Kind.{Kind}
 use Rattle.datum_form.specs.declared.datums.Kind.TheVariants as kind
-use Rattle.datum_form.specs.Syntax.{Atom}
-use Rattle.datum_form.specs.Syntax.Atom.{Integer, Boolean, Character, Text, Name}
-use Rattle.datum_form.specs.Data.{Datum, Items}
-use Rattle.datum_form.specs.Data.Datum.{Single, Chain, Dotted, Row}
+use Rattle.datum_form.specs.declared.token.Atom.{Atom}
+use Rattle.datum_form.specs.declared.token.Atom.TheVariants.{Integer, Boolean, Character, String, Symbol}
+use Rattle.datum_form.specs.Data.{Datum, Datum as datum, Items}
 use Rattle.datum_form.specs.Data.Items.{none, item}
 use Rattle.datum_form.specs.Stands.{kind_of, IsNode, Stands, StandAll}
 
@@ -20,16 +19,16 @@ abbrev atom_of : Atom → Kind → Atom
 atom_of other (kind.Integer n) = Integer n
 atom_of other (kind.Boolean b) = Boolean b
 atom_of other (kind.Char c) = Character c
-atom_of other (kind.Text bytes) = Text bytes
-atom_of other (kind.Name bytes) = Name bytes
+atom_of other (kind.Text bytes) = String bytes
+atom_of other (kind.Name bytes) = Symbol bytes
 atom_of other k = other
 
 atom_of-kind_of : (other a : Atom) → atom_of other (kind_of a) ≡ a
 atom_of-kind_of other (Integer n) = refl
 atom_of-kind_of other (Boolean b) = refl
 atom_of-kind_of other (Character c) = refl
-atom_of-kind_of other (Text bytes) = refl
-atom_of-kind_of other (Name bytes) = refl
+atom_of-kind_of other (String bytes) = refl
+atom_of-kind_of other (Symbol bytes) = refl
 
 same_atom : (a b : Atom) → kind_of a ≡ kind_of b → a ≡ b
 same_atom a b e = sym (atom_of-kind_of a a) ∙ (ap (atom_of a) e ∙ atom_of-kind_of a b)
@@ -44,14 +43,14 @@ shape_atom : (a : Atom) → shape (kind_of a) ≡ 0
 shape_atom (Integer n) = refl
 shape_atom (Boolean b) = refl
 shape_atom (Character c) = refl
-shape_atom (Text bytes) = refl
-shape_atom (Name bytes) = refl
+shape_atom (String bytes) = refl
+shape_atom (Symbol bytes) = refl
 
 abbrev shape_of : Datum → ℕ
-shape_of (Single p a) = 0
-shape_of (Chain p is) = 1
-shape_of (Dotted p is d) = 2
-shape_of (Row p is) = 3
+shape_of (datum.Atomic p a) = 0
+shape_of (datum.List p is) = 1
+shape_of (datum.Dotted p is d) = 2
+shape_of (datum.Vector p is) = 3
 
 -- Nodes
 
@@ -61,10 +60,10 @@ record Seen (nodes : Seq Node) (id : ℕ) (n : ℕ) : Type 0 where
   shaped : shape node.kind ≡ n
 
 seen : (nodes : Seq Node) (id : ℕ) (d : Datum) → Stands nodes id d → Seen nodes id (shape_of d)
-seen nodes id (Single p a) h = record { node = _; got = h; shaped = shape_atom a }
-seen nodes id (Chain p is) h = record { node = _; got = h.1; shaped = refl }
-seen nodes id (Dotted p is d) h = record { node = _; got = h.2; shaped = refl }
-seen nodes id (Row p is) h = record { node = _; got = h.1; shaped = refl }
+seen nodes id (datum.Atomic p a) h = record { node = _; got = h; shaped = shape_atom a }
+seen nodes id (datum.List p is) h = record { node = _; got = h.1; shaped = refl }
+seen nodes id (datum.Dotted p is d) h = record { node = _; got = h.2; shaped = refl }
+seen nodes id (datum.Vector p is) h = record { node = _; got = h.1; shaped = refl }
 
 same_shape : (nodes : Seq Node) (id : ℕ) (d e : Datum) → Stands nodes id d → Stands nodes id e → shape_of d ≡ shape_of e
 same_shape nodes id d e h k =
@@ -103,23 +102,23 @@ after_head (i ∷ is) = is
 
 mutual
   pub one_node : (nodes : Seq Node) (id : ℕ) (d e : Datum) → Stands nodes id d → Stands nodes id e → d ≡ e
-  one_node nodes id (Single p a) (Single q b) h k =
+  one_node nodes id (datum.Atomic p a) (datum.Atomic q b) h k =
       let same = same_node nodes id (kind_of a) (kind_of b) p q h k in
-      ap (λ r. Single r a) same.1 ∙ ap (λ c. Single q c) (same_atom a b same.0)
-  one_node nodes id (Chain p is) (Chain q js) h k =
+      ap (λ r. datum.Atomic r a) same.1 ∙ ap (λ c. datum.Atomic q c) (same_atom a b same.0)
+  one_node nodes id (datum.List p is) (datum.List q js) h k =
       let same = same_node nodes id (kind.List h.0 None) (kind.List k.0 None) p q h.1 k.1 in
-      ap (λ r. Chain r is) same.1
-      ∙ ap (λ ks. Chain q ks) (one_list nodes h.0 k.0 (ap ids_of same.0) is js h.2 k.2)
-  one_node nodes id (Dotted p is d) (Dotted q js e) h k =
+      ap (λ r. datum.List r is) same.1
+      ∙ ap (λ ks. datum.List q ks) (one_list nodes h.0 k.0 (ap ids_of same.0) is js h.2 k.2)
+  one_node nodes id (datum.Dotted p is d) (datum.Dotted q js e) h k =
       let same = same_node nodes id (kind.List h.0 (Some h.1)) (kind.List k.0 (Some k.1)) p q h.2 k.2 in
       let P : ℕ → Type 0 = λ i. Stands nodes i e in
-      ap (λ r. Dotted r is d) same.1
-      ∙ (ap (λ ks. Dotted q ks d) (one_list nodes h.0 k.0 (ap ids_of same.0) is js h.3 k.3)
-      ∙ ap (λ t. Dotted q js t) (one_node nodes h.1 d e h.4 (subst P (sym (ap (tail_of 0) same.0)) k.4)))
-  one_node nodes id (Row p is) (Row q js) h k =
+      ap (λ r. datum.Dotted r is d) same.1
+      ∙ (ap (λ ks. datum.Dotted q ks d) (one_list nodes h.0 k.0 (ap ids_of same.0) is js h.3 k.3)
+      ∙ ap (λ t. datum.Dotted q js t) (one_node nodes h.1 d e h.4 (subst P (sym (ap (tail_of 0) same.0)) k.4)))
+  one_node nodes id (datum.Vector p is) (datum.Vector q js) h k =
       let same = same_node nodes id (kind.Vector h.0) (kind.Vector k.0) p q h.1 k.1 in
-      ap (λ r. Row r is) same.1
-      ∙ ap (λ ks. Row q ks) (one_list nodes h.0 k.0 (ap ids_of same.0) is js h.2 k.2)
+      ap (λ r. datum.Vector r is) same.1
+      ∙ ap (λ ks. datum.Vector q ks) (one_list nodes h.0 k.0 (ap ids_of same.0) is js h.2 k.2)
   one_node nodes id d e h k = absurd (differ (shape_of d) (shape_of e) refl (same_shape nodes id d e h k))
 
   pub one_list : (nodes : Seq Node) (ids more : Seq ℕ) → ids ≡ more → (is js : Items) → StandAll nodes ids is

@@ -5,8 +5,9 @@
 -- of deeper nesting.
 use Rattle.std.specs.Prelude.{◌≡◌, ℕ, List, [], ◌∷◌, ◌++◌}
 use Rattle.scheme_base.specs.declared.pos.Pos.{Pos}
-use Rattle.datum_form.specs.Syntax.{Token, Syntax, written, written_all, Within, WithinAll, Begins, place_of}
-use Rattle.datum_form.specs.Syntax.Token.{Open, OpenVector, Close, Dot, Marking, Single}
+use Rattle.datum_form.specs.declared.token.Token.{Token}
+use Rattle.datum_form.specs.Syntax.{Syntax, written, written_all, Within, WithinAll, Begins, place_of}
+use Rattle.datum_form.specs.declared.token.Token.TheVariants.{Open, OpenVector, Close, Dot, Marking, Atomic}
 
 -- what stands inside a list that is not closed yet: whole data, perhaps a dot, perhaps its tail
 pub data Inside : Type 0 where
@@ -25,25 +26,25 @@ WithinInside n (Dotted s ss d) = Within n s × WithinAll n ss
 WithinInside n (Tailed s ss d t) = Within n s × WithinAll n ss × Within n t
 
 -- after these tokens a list is still open
-pub record OpenList (n : ℕ) (ts : List Token) : Type 0 where
+pub record InsideList (n : ℕ) (ts : List Token) : Type 0 where
   pub inside : Inside
   pub within : WithinInside n inside
   pub whole : ts ≡ written_inside inside
 
 -- after these tokens a vector is still open
-pub record OpenRow (n : ℕ) (ts : List Token) : Type 0 where
+pub record InsideVector (n : ℕ) (ts : List Token) : Type 0 where
   pub trees : List Syntax
   pub within : WithinAll n trees
   pub whole : ts ≡ written_all trees []
 
 -- this token opens what is still open after the others, with nothing open inside it
 abbrev pub StaysOpen : ℕ → Token → List Token → Type 0
-StaysOpen n (Open p) ts = OpenList n ts
-StaysOpen n (OpenVector p) ts = OpenRow n ts
+StaysOpen n (Open p) ts = InsideList n ts
+StaysOpen n (OpenVector p) ts = InsideVector n ts
 StaysOpen n (Close p) ts = ⊥
 StaysOpen n (Dot p) ts = ⊥
 StaysOpen n (Marking p m) ts = ts ≡ []
-StaysOpen n (Single p a) ts = ⊥
+StaysOpen n (Atomic p a) ts = ⊥
 
 -- a token at this place, up to which a text can still come, fits no text
 pub record Strays (n : ℕ) (ts : List Token) (p : Pos) : Type 0 where

@@ -8,10 +8,10 @@ use Rattle.std.specs.Str.{byte, str_to_ascii_lowercase}
 use Rattle.scheme_base.specs.declared.pos.Pos.{Pos}
 use Rattle.scheme_base.specs.Positions.{after_byte, position_after}
 use Rattle.scheme_base.specs.Integers.{in_range}
-use Rattle.datum_form.specs.Syntax.{Token}
-use Rattle.datum_form.specs.Syntax.Atom.{Integer, Boolean, Character, Text, Name}
-use Rattle.datum_form.specs.Syntax.Mark.{Quote, Quasiquote, Unquote, Splice}
-use Rattle.datum_form.specs.Syntax.Token.{Open, OpenVector, Close, Dot, Marking, Single}
+use Rattle.datum_form.specs.declared.token.Token.{Token}
+use Rattle.datum_form.specs.declared.token.Atom.TheVariants.{Integer, Boolean, Character, String, Symbol}
+use Rattle.datum_form.specs.declared.token.Mark.TheVariants.{Quote, Quasiquote, Unquote, Splice}
+use Rattle.datum_form.specs.declared.token.Token.TheVariants.{Open, OpenVector, Close, Dot, Marking, Atomic}
 use Rattle.datum_form.specs.Text.{is_delimiter}
 use Rattle.datum_form.specs.Words.{digits, is_name}
 
@@ -64,10 +64,10 @@ pub record IsNumber (word : List ℕ) (z : ℤ) : Type 0 where
 -- to 2^61 - 1. `is_name` is ⟨identifier⟩.
 pub data IsWord : Pos → List ℕ → Token → Type 0 where
   dot : (p : Pos) → IsWord p (codes ".") (Dot p)
-  true_word : (p : Pos) → IsWord p (codes "#t") (Single p (Boolean true))
-  false_word : (p : Pos) → IsWord p (codes "#f") (Single p (Boolean false))
-  number : (p : Pos) (word : List ℕ) (z : ℤ) → IsNumber word z → in_range z ≡ true → IsWord p word (Single p (Integer z))
-  name : (p : Pos) (word : List ℕ) → is_name word ≡ true → IsWord p word (Single p (Name word))
+  true_word : (p : Pos) → IsWord p (codes "#t") (Atomic p (Boolean true))
+  false_word : (p : Pos) → IsWord p (codes "#f") (Atomic p (Boolean false))
+  number : (p : Pos) (word : List ℕ) (z : ℤ) → IsNumber word z → in_range z ≡ true → IsWord p word (Atomic p (Integer z))
+  name : (p : Pos) (word : List ℕ) → is_name word ≡ true → IsWord p word (Atomic p (Symbol word))
 
 -- ⟨character⟩: any byte, and two names in letters of either case
 pub data IsCharacter : List ℕ → ℕ → Type 0 where
@@ -114,10 +114,10 @@ pub data IsToken : Pos → (word after : List ℕ) → Token → Type 0 where
   unquote : (p : Pos) (after : List ℕ) → NotNext (byte "@") after → IsToken p (codes ",") after (Marking p Unquote)
   string :
       (p : Pos) (after text bytes : List ℕ) → IsString text bytes
-      → IsToken p (byte "\"" ∷ (text ++ byte "\"" ∷ [])) after (Single p (Text bytes))
+      → IsToken p (byte "\"" ∷ (text ++ byte "\"" ∷ [])) after (Atomic p (String bytes))
   character :
       (p : Pos) (after : List ℕ) (b : ℕ) (more : List ℕ) (c : ℕ) → Undelimited more → Delimited after
-      → IsCharacter (codes "#\\" ++ b ∷ more) c → IsToken p (codes "#\\" ++ b ∷ more) after (Single p (Character c))
+      → IsCharacter (codes "#\\" ++ b ∷ more) c → IsToken p (codes "#\\" ++ b ∷ more) after (Atomic p (Character c))
   word :
       (p : Pos) (after bytes : List ℕ) (t : Token) → Undelimited bytes → Delimited after
       → IsWord p (str_to_ascii_lowercase bytes) t → IsToken p bytes after t

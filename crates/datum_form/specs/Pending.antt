@@ -5,8 +5,7 @@ use Rattle.datum_form.specs.declared.datums.Kind.{Kind}
 use Rattle.datum_form.specs.declared.datums.Kind.TheVariants as kind
 use Rattle.datum_form.specs.declared.text.Part.{Part}
 use Rattle.datum_form.specs.declared.text.Part.TheVariants as part
-use Rattle.datum_form.specs.Data.{Datum}
-use Rattle.datum_form.specs.Data.Datum.{Single, Chain, Dotted, Row}
+use Rattle.datum_form.specs.Data.{Datum, Datum as datum}
 use Rattle.datum_form.specs.Stands.{kind_of, Stands, StandAll}
 use Rattle.datum_form.specs.Print.{text_of}
 
@@ -33,8 +32,8 @@ Left nodes text parts whole = (more : Seq ℕ) × Pending nodes parts more × (t
 
 -- a node of this kind stands for this datum
 abbrev pub IsKind : Seq Node → Kind → Datum → Type 0
-IsKind nodes k (Single p a) = k ≡ kind_of a
-IsKind nodes k (Chain p is) = (ids : Seq ℕ) × (k ≡ kind.List ids None) × StandAll nodes ids is
-IsKind nodes k (Dotted p is d) =
+IsKind nodes k (datum.Atomic p a) = k ≡ kind_of a
+IsKind nodes k (datum.List p is) = (ids : Seq ℕ) × (k ≡ kind.List ids None) × StandAll nodes ids is
+IsKind nodes k (datum.Dotted p is d) =
     (ids : Seq ℕ) × (tail : ℕ) × (k ≡ kind.List ids (Some tail)) × StandAll nodes ids is × Stands nodes tail d
-IsKind nodes k (Row p is) = (ids : Seq ℕ) × (k ≡ kind.Vector ids) × StandAll nodes ids is
+IsKind nodes k (datum.Vector p is) = (ids : Seq ℕ) × (k ≡ kind.Vector ids) × StandAll nodes ids is

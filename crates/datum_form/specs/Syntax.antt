@@ -2,32 +2,12 @@
 --
 -- A tree keeps the place of each of its tokens. Lists, vectors and marks count as levels of nesting,
 -- each as it stands in the text.
-use Rattle.std.specs.Prelude.{ℕ, zero, suc, ℤ, ◌≡◌, Bool, List, [], ◌∷◌, ◌++◌}
+use Rattle.std.specs.Prelude.{ℕ, zero, suc, ◌≡◌, List, [], ◌∷◌, ◌++◌}
 use Rattle.scheme_base.specs.declared.pos.Pos.{Pos}
-
--- a datum without parts: ⟨number⟩, ⟨boolean⟩, ⟨character⟩, ⟨string⟩ or ⟨symbol⟩
-pub data Atom : Type 0 where
-  Integer : ℤ → Atom
-  Boolean : Bool → Atom
-  Character : ℕ → Atom
-  Text : List ℕ → Atom
-  Name : List ℕ → Atom
-
--- ' and ` and , and ,@ of ⟨abbrev prefix⟩
-pub data Mark : Type 0 where
-  Quote : Mark
-  Quasiquote : Mark
-  Unquote : Mark
-  Splice : Mark
-
--- a token at its place: ( and #( and ) and . and a mark, and what is a datum by itself
-pub data Token : Type 0 where
-  Open : Pos → Token
-  OpenVector : Pos → Token
-  Close : Pos → Token
-  Dot : Pos → Token
-  Marking : Pos → Mark → Token
-  Single : Pos → Atom → Token
+use Rattle.datum_form.specs.declared.token.Atom.{Atom}
+use Rattle.datum_form.specs.declared.token.Mark.{Mark}
+use Rattle.datum_form.specs.declared.token.Token.{Token}
+use Rattle.datum_form.specs.declared.token.Token.TheVariants.{Open, OpenVector, Close, Dot, Marking, Atomic}
 
 mutual
   -- ⟨datum⟩
@@ -36,7 +16,7 @@ mutual
     -- ⟨abbreviation⟩
     Marked : Pos → Mark → Syntax → Syntax
     -- a list without items, by the places of its parentheses
-    Empty : Pos → Pos → Syntax
+    Nil : Pos → Pos → Syntax
     -- a list with a first item, the rest, and the place of its closing parenthesis
     Listed : Pos → Syntax → Rest → Pos → Syntax
     Vector : Pos → Elements → Pos → Syntax
@@ -56,9 +36,9 @@ mutual
 -- the tokens of a tree, and then others
 abbrev mutual
   pub written : Syntax → List Token → List Token
-  written (Leaf p a) ts = Single p a ∷ ts
+  written (Leaf p a) ts = Atomic p a ∷ ts
   written (Marked p m s) ts = Marking p m ∷ written s ts
-  written (Empty p q) ts = Open p ∷ Close q ∷ ts
+  written (Nil p q) ts = Open p ∷ Close q ∷ ts
   written (Listed p s r q) ts = Open p ∷ written s (written_rest r (Close q ∷ ts))
   written (Vector p e q) ts = OpenVector p ∷ written_elements e (Close q ∷ ts)
 
@@ -81,8 +61,8 @@ abbrev mutual
   Within n (Leaf p a) = Unit {0}
   Within zero (Marked p m s) = ⊥
   Within (suc n) (Marked p m s) = Within n s
-  Within zero (Empty p q) = ⊥
-  Within (suc n) (Empty p q) = Unit {0}
+  Within zero (Nil p q) = ⊥
+  Within (suc n) (Nil p q) = Unit {0}
   Within zero (Listed p s r q) = ⊥
   Within (suc n) (Listed p s r q) = Within n s × WithinRest n r
   Within zero (Vector p e q) = ⊥
@@ -118,4 +98,4 @@ place_of (OpenVector p) = p
 place_of (Close p) = p
 place_of (Dot p) = p
 place_of (Marking p m) = p
-place_of (Single p a) = p
+place_of (Atomic p a) = p

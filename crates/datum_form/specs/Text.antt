@@ -8,12 +8,15 @@ use Rattle.std.specs.Char.{is_ascii_whitespace}
 use Rattle.std.specs.Str.{byte, str_to_ascii_lowercase}
 use Rattle.scheme_base.specs.declared.pos.Pos.{Pos}
 use Rattle.scheme_base.specs.Positions.{after_byte, is_line_end}
-use Rattle.datum_form.specs.Syntax.{Token}
-use Rattle.datum_form.specs.Syntax.Atom.{Text}
-use Rattle.datum_form.specs.Syntax.Mark.{Quote, Quasiquote, Unquote, Splice}
-use Rattle.datum_form.specs.Syntax.Token.{Open, OpenVector, Close, Marking, Single}
-use Rattle.datum_form.specs.Words.{Word, begins_with, small_word, character_word}
-use Rattle.datum_form.specs.Words.Word.{IsToken, OutOfRange, NoWord}
+use Rattle.datum_form.specs.declared.token.Token.{Token}
+use Rattle.datum_form.specs.declared.token.Atom.TheVariants.{String}
+use Rattle.datum_form.specs.declared.token.Mark.TheVariants.{Quote, Quasiquote, Unquote, Splice}
+use Rattle.datum_form.specs.declared.token.Token.TheVariants.{Open, OpenVector, Close, Marking, Atomic}
+use Rattle.datum_form.specs.declared.piece.Piece.{Piece}
+use Rattle.datum_form.specs.declared.piece.Piece.TheVariants.{Blank, Found, BadToken, BadNumber, OpenString}
+use Rattle.datum_form.specs.declared.piece.Word.{Word}
+use Rattle.datum_form.specs.Words.{begins_with, small_word, character_word}
+use Rattle.datum_form.specs.declared.piece.Word.TheVariants.{IsToken, OutOfRange, NoWord}
 
 -- Strings
 
@@ -63,23 +66,15 @@ run_length text = length (take_while (λ b. not (is_delimiter b)) text)
 abbrev pub line_length : List ℕ → ℕ
 line_length text = length (take_while (λ b. not (is_line_end b)) text)
 
--- a text's first piece
-pub data Piece : Type 0 where
-  Blank : (length : ℕ) → Piece
-  Found : Token → (length : ℕ) → Piece
-  BadToken : Piece
-  BadNumber : Piece
-  OpenText : Piece
-
 abbrev pub word_piece : Word → (length : ℕ) → Piece
 word_piece (IsToken t) n = Found t n
 word_piece OutOfRange n = BadNumber
 word_piece NoWord n = BadToken
 
 abbrev pub string_piece : Pos → Quoted → Piece
-string_piece p (Closed bytes n) = Found (Single p (Text bytes)) (n + 1)
+string_piece p (Closed bytes n) = Found (Atomic p (String bytes)) (n + 1)
 string_piece p BadEscape = BadToken
-string_piece p NeverClosed = OpenText
+string_piece p NeverClosed = OpenString
 
 -- `#\` takes one byte, whatever it is, before its run goes on
 abbrev pub character_piece : Pos → List ℕ → Piece
@@ -116,7 +111,7 @@ piece_length (Blank n) = n
 piece_length (Found t n) = n
 piece_length BadToken = 1
 piece_length BadNumber = 1
-piece_length OpenText = 1
+piece_length OpenString = 1
 
 -- Tokens
 
@@ -137,7 +132,7 @@ before p (Blank n) rest = rest
 before p (Found t n) rest = record { tokens = t ∷ rest.tokens; ending = rest.ending }
 before p BadToken rest = record { tokens = []; ending = BadAt p }
 before p BadNumber rest = record { tokens = []; ending = RangeAt p }
-before p OpenText rest = record { tokens = []; ending = OpenAt p }
+before p OpenString rest = record { tokens = []; ending = OpenAt p }
 
 -- the tokens of a text that begins at this place, and of which the first bytes, so many, are still of the
 -- piece before

@@ -9,9 +9,11 @@ use Rattle.std.specs.Str.{byte, bytes_eq, str_to_ascii_lowercase}
 use Rattle.scheme_base.specs.Outside.{lists}
 use Rattle.scheme_base.specs.declared.pos.Pos.{Pos}
 use Rattle.scheme_base.specs.Integers.{in_range}
-use Rattle.datum_form.specs.Syntax.{Token}
-use Rattle.datum_form.specs.Syntax.Atom.{Integer, Boolean, Character, Name}
-use Rattle.datum_form.specs.Syntax.Token.{Dot, Single}
+use Rattle.datum_form.specs.declared.token.Token.{Token}
+use Rattle.datum_form.specs.declared.token.Atom.TheVariants.{Integer, Boolean, Character, Symbol}
+use Rattle.datum_form.specs.declared.token.Token.TheVariants.{Dot, Atomic}
+use Rattle.datum_form.specs.declared.piece.Word.{Word}
+use Rattle.datum_form.specs.declared.piece.Word.TheVariants.{IsToken, OutOfRange, NoWord}
 
 -- Numbers: ⟨num R⟩ with ⟨prefix R⟩ ⟨sign⟩ ⟨uinteger R⟩
 
@@ -90,17 +92,11 @@ is_name text =
 
 -- What a run is
 
--- a token at the run's place, a number out of range, or nothing
-pub data Word : Type 0 where
-  IsToken : Token → Word
-  OutOfRange : Word
-  NoWord : Word
-
 abbrev pub number_word : Pos → ℤ → Word
-number_word p z = if in_range z then IsToken (Single p (Integer z)) else OutOfRange
+number_word p z = if in_range z then IsToken (Atomic p (Integer z)) else OutOfRange
 
 abbrev pub name_word : Pos → List ℕ → Word
-name_word p text = if is_name text then IsToken (Single p (Name text)) else NoWord
+name_word p text = if is_name text then IsToken (Atomic p (Symbol text)) else NoWord
 
 abbrev pub number_or_name : Pos → List ℕ → Option ℤ → Word
 number_or_name p text (Some z) = number_word p z
@@ -110,17 +106,17 @@ number_or_name p text None = name_word p text
 abbrev pub small_word : Pos → List ℕ → Word
 small_word p text =
     if bytes_eq text (codes ".") then IsToken (Dot p)
-    else (if bytes_eq text (codes "#t") then IsToken (Single p (Boolean true))
-    else (if bytes_eq text (codes "#f") then IsToken (Single p (Boolean false))
+    else (if bytes_eq text (codes "#t") then IsToken (Atomic p (Boolean true))
+    else (if bytes_eq text (codes "#f") then IsToken (Atomic p (Boolean false))
     else number_or_name p text (number text)))
 
 abbrev pub named_character : Pos → List ℕ → Word
 named_character p text =
-    if bytes_eq text (codes "#\\space") then IsToken (Single p (Character (byte " ")))
-    else (if bytes_eq text (codes "#\\newline") then IsToken (Single p (Character (byte "\n"))) else NoWord)
+    if bytes_eq text (codes "#\\space") then IsToken (Atomic p (Character (byte " ")))
+    else (if bytes_eq text (codes "#\\newline") then IsToken (Atomic p (Character (byte "\n"))) else NoWord)
 
 -- a run that begins with `#\`
 abbrev pub character_word : Pos → List ℕ → Word
 character_word p text =
-    if length text == 3 then IsToken (Single p (Character (slice_index text 2)))
+    if length text == 3 then IsToken (Atomic p (Character (slice_index text 2)))
     else named_character p (str_to_ascii_lowercase text)

@@ -3,7 +3,8 @@
 use Rattle.std.proofs.Common.{◌≡◌, ℕ, zero, suc, ◌<◌, ◌≤◌, Bool, true, false, List, [], ◌∷◌, length, Option, Some, None, ◌⊎◌, inl, inr, refl, sym, ap, subst, ◌∙◌, arith}
 use Rattle.std.specs.Prelude.{nat_lt}
 use Rattle.scheme_base.specs.declared.pos.Pos.{Pos}
-use Rattle.datum_form.specs.Syntax.{Token, Syntax, IsText, Begins}
+use Rattle.datum_form.specs.declared.token.Token.{Token}
+use Rattle.datum_form.specs.Syntax.{Syntax, IsText, Begins}
 use Rattle.datum_form.specs.Data.{Items, data_of}
 use Rattle.datum_form.specs.Grammar.{IsSpelled}
 use Rattle.datum_form.specs.Faults.{Fault as TokenFault, HasFault}
@@ -15,10 +16,10 @@ use Rattle.datum_reader.specs.declared.error.ReadErr.TheVariants.{Unclosed, Stra
 use Rattle.datum_reader.specs.Answer.{max_length, max_depth, Reads, Breaks, Fault, ReadFault}
 use Rattle.datum_reader.specs.Machine.{Frame, Run, frame_place, run, start}
 use Rattle.datum_reader.specs.Machine.Run.{On, Stray as StrayRun, Deep as DeepRun}
-use Rattle.datum_reader.proofs.Texts.{tokens_lexed, lexed_tokens}
-use Rattle.datum_reader.proofs.WholeTrees.{text_run, one_text}
-use Rattle.datum_reader.proofs.Lifts.{IsOn}
-use Rattle.datum_reader.proofs.Ends.{begins_on, on_begins, Shows}
+use Rattle.datum_reader.proofs.TokensFoundAreSpelled.{tokens_lexed, lexed_tokens}
+use Rattle.datum_reader.proofs.WholeTreesAreRead.{text_run, one_text}
+use Rattle.datum_reader.proofs.DeeperReadsTheSame.{IsOn}
+use Rattle.datum_reader.proofs.ReadingGoesOnOrFaults.{begins_on, on_begins, Shows}
 use Rattle.datum_reader.proofs.OneReading.{outcome, fault_shown}
 
 -- The fault that is told

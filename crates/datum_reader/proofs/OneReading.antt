@@ -2,18 +2,19 @@
 use Rattle.std.proofs.Common.{◌≡◌, ℕ, zero, suc, Bool, true, false, List, [], ◌∷◌, ◌++◌, Some, ◌⊎◌, inl, inr, refl, sym, ap, subst, ◌∙◌, append_assoc}
 use Rattle.std.proofs.lemmas.List.{append-nil}
 use Rattle.scheme_base.specs.declared.pos.Pos.{Pos}
-use Rattle.datum_form.specs.Syntax.{Token, Syntax, written, written_all, WithinAll, IsText, Begins, place_of}
-use Rattle.datum_form.specs.Syntax.Token.{Open, OpenVector, Close, Dot, Marking, Single}
-use Rattle.datum_form.specs.Faults.{Inside, written_inside, WithinInside, OpenList, OpenRow, StaysOpen, Strays, Deepens, Fault, HasFault}
+use Rattle.datum_form.specs.declared.token.Token.{Token}
+use Rattle.datum_form.specs.Syntax.{Syntax, written, written_all, WithinAll, IsText, Begins, place_of}
+use Rattle.datum_form.specs.declared.token.Token.TheVariants.{Open, OpenVector, Close, Dot, Marking, Atomic}
+use Rattle.datum_form.specs.Faults.{Inside, written_inside, WithinInside, InsideList, InsideVector, StaysOpen, Strays, Deepens, Fault, HasFault}
 use Rattle.datum_form.specs.Faults.Inside.{Items, Dotted as DottedIn, Tailed as TailedIn}
 use Rattle.datum_form.specs.Faults.Fault.{IsStray, IsDeep, IsUnclosed}
 use Rattle.datum_reader.specs.Machine.{Frame, Run, frame_place, room, in_room, open_one, step, run, start}
-use Rattle.datum_reader.specs.Machine.Frame.{Opened, Listing, Dotted, Tailed, Rowing, Waiting}
+use Rattle.datum_reader.specs.Machine.Frame.{Opened, Listing, Dotted, Tailed, InVector, Waiting}
 use Rattle.datum_reader.specs.Machine.Run.{On, Stray, Deep}
-use Rattle.datum_reader.proofs.WholeTrees.{reads, reads_items, reads_row, text_run}
-use Rattle.datum_reader.proofs.Good.{frame_written, frames_written, FrameWithin, Good, GoodRun, start_good, good_begins}
-use Rattle.datum_reader.proofs.Lifts.{IsOn, TooDeep, on_not_deep, on_before, up, up_swap, raise_levels, raise_run, AtPlace, at_step}
-use Rattle.datum_reader.proofs.Ends.{Going, going, next, next_one, run_append, begins_on, on_begins, stray_none, deep_begins, Shows, same_fault, innermost, shows_innermost, innermost_raise, within_up, within_up_all, frame_more, frame_fits, outside}
+use Rattle.datum_reader.proofs.WholeTreesAreRead.{reads, reads_items, reads_vector, text_run}
+use Rattle.datum_reader.proofs.ReadingBeginsAText.{frame_written, frames_written, FrameWithin, Good, GoodRun, start_good, good_begins}
+use Rattle.datum_reader.proofs.DeeperReadsTheSame.{IsOn, TooDeep, on_not_deep, on_before, up, up_swap, raise_levels, raise_run, AtPlace, at_step}
+use Rattle.datum_reader.proofs.ReadingGoesOnOrFaults.{Going, going, next, next_one, run_append, begins_on, on_begins, stray_none, deep_begins, Shows, same_fault, innermost, shows_innermost, innermost_raise, within_up, within_up_all, frame_more, frame_fits, outside}
 
 -- There is an outcome
 
@@ -61,7 +62,7 @@ still_open n (Tailed p a is d t) h =
       stays = record { inside = TailedIn a is d t; within = h; whole = refl };
       place = refl;
     }
-still_open n (Rowing p is) h =
+still_open n (InVector p is) h =
     record {
       opener = OpenVector p;
       inside = written_all is [];
@@ -230,7 +231,7 @@ raised n m fs tops ts p goes e =
     ∙ ap (λ r. run r ts) (raise_levels n m fs tops))
     ∙ e)
 
-list_innermost : (n m : ℕ) (fs : List Frame) (tops : List Syntax) (ts : List Token) (p : Pos) → OpenList n ts
+list_innermost : (n m : ℕ) (fs : List Frame) (tops : List Syntax) (ts : List Token) (p : Pos) → InsideList n ts
     → IsOn (run (On m (Opened p ∷ fs) tops) ts) → innermost (run (On m (Opened p ∷ fs) tops) ts) ≡ Some p
 list_innermost n m fs tops ts p o goes =
     let P : ℕ → Type 0 = λ k. WithinInside k o.inside in
@@ -238,14 +239,14 @@ list_innermost n m fs tops ts p o goes =
     (ap (λ us. innermost (run (On (up n m) (Opened p ∷ fs) tops) us)) o.whole
     ∙ inside_run o.inside (up n m) p fs tops (subst P (up_swap m n) (inside_up o.inside m n o.within)))
 
-row_innermost : (n m : ℕ) (fs : List Frame) (tops : List Syntax) (ts : List Token) (p : Pos) → OpenRow n ts
-    → IsOn (run (On m (Rowing p [] ∷ fs) tops) ts) → innermost (run (On m (Rowing p [] ∷ fs) tops) ts) ≡ Some p
-row_innermost n m fs tops ts p o goes =
+vector_innermost : (n m : ℕ) (fs : List Frame) (tops : List Syntax) (ts : List Token) (p : Pos) → InsideVector n ts
+    → IsOn (run (On m (InVector p [] ∷ fs) tops) ts) → innermost (run (On m (InVector p [] ∷ fs) tops) ts) ≡ Some p
+vector_innermost n m fs tops ts p o goes =
     let P : ℕ → Type 0 = λ k. WithinAll k o.trees in
-    raised n m (Rowing p [] ∷ fs) tops ts p goes
-    (ap (λ us. innermost (run (On (up n m) (Rowing p [] ∷ fs) tops) us)) o.whole
+    raised n m (InVector p [] ∷ fs) tops ts p goes
+    (ap (λ us. innermost (run (On (up n m) (InVector p [] ∷ fs) tops) us)) o.whole
     ∙ ap innermost
-    (reads_row o.trees (up n m) p [] fs tops [] (subst P (up_swap m n) (within_up_all m o.trees n o.within))))
+    (reads_vector o.trees (up n m) p [] fs tops [] (subst P (up_swap m n) (within_up_all m o.trees n o.within))))
 
 -- a reading goes through a token that opens
 through : (r s : Run) (ts : List Token) (p : Pos) → r ≡ s → IsOn (run r ts)
@@ -263,9 +264,9 @@ opener_innermost (Open p) n m fs tops ts stays goes =
     (λ on. list_innermost n one.levels fs tops ts p stays on)
 opener_innermost (OpenVector p) n m fs tops ts stays goes =
     let first = step m fs tops (OpenVector p) in
-    let one = entered (room fs) m (Rowing p []) fs tops p (on_before first ts goes) in
-    through first (On one.levels (Rowing p [] ∷ fs) tops) ts p one.is goes
-    (λ on. row_innermost n one.levels fs tops ts p stays on)
+    let one = entered (room fs) m (InVector p []) fs tops p (on_before first ts goes) in
+    through first (On one.levels (InVector p [] ∷ fs) tops) ts p one.is goes
+    (λ on. vector_innermost n one.levels fs tops ts p stays on)
 opener_innermost (Close p) n m fs tops ts stays goes = absurd stays
 opener_innermost (Dot p) n m fs tops ts stays goes = absurd stays
 opener_innermost (Marking p k) n m fs tops ts stays goes =
@@ -273,7 +274,7 @@ opener_innermost (Marking p k) n m fs tops ts stays goes =
     let one = entered (room fs) m (Waiting p k) fs tops p (on_before first ts goes) in
     through first (On one.levels (Waiting p k ∷ fs) tops) ts p one.is goes
     (λ on. ap (λ us. innermost (run (On one.levels (Waiting p k ∷ fs) tops) us)) stays)
-opener_innermost (Single p a) n m fs tops ts stays goes = absurd stays
+opener_innermost (Atomic p a) n m fs tops ts stays goes = absurd stays
 
 -- the reading goes on up to the first token of these
 front_goes : (n : ℕ) (front : List Token) → Begins n front → Going (run (start n) front)

@@ -5,7 +5,8 @@
 use Rattle.std.specs.Prelude.{◌≡◌, ℕ, ◌<◌, ◌≤◌, List, length, ◌++◌, Option, Some, None, ◌⊎◌, Result, Ok, Err}
 use Rattle.scheme_base.specs.declared.pos.Pos.{Pos}
 use Rattle.scheme_base.specs.Positions.{position_after}
-use Rattle.datum_form.specs.Syntax.{Token, Syntax, IsText, Begins}
+use Rattle.datum_form.specs.declared.token.Token.{Token}
+use Rattle.datum_form.specs.Syntax.{Syntax, IsText, Begins}
 use Rattle.datum_form.specs.Data.{Items, data_of, unplaced_all}
 use Rattle.datum_form.specs.Print.{lines_of}
 use Rattle.datum_form.specs.Stands.{Holds}

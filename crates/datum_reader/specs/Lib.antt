@@ -1,5 +1,4 @@
 pub mod Answer
-pub mod Found
 pub mod Levels
 pub mod Lexing
 pub mod Machine

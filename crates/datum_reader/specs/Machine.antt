@@ -1,9 +1,11 @@
 -- A machine that reads tokens from left to right, with a stack of what is still open.
 use Rattle.std.specs.Prelude.{ℕ, zero, suc, Bool, true, false, List, [], ◌∷◌, ◌++◌}
 use Rattle.scheme_base.specs.declared.pos.Pos.{Pos}
-use Rattle.datum_form.specs.Syntax.{Mark, Token, Syntax, Rest, Elements}
-use Rattle.datum_form.specs.Syntax.Token.{Open, OpenVector, Close, Dot, Marking, Single}
-use Rattle.datum_form.specs.Syntax.Syntax.{Leaf, Marked, Empty, Listed, Vector}
+use Rattle.datum_form.specs.declared.token.Mark.{Mark}
+use Rattle.datum_form.specs.declared.token.Token.{Token}
+use Rattle.datum_form.specs.Syntax.{Syntax, Rest, Elements}
+use Rattle.datum_form.specs.declared.token.Token.TheVariants.{Open, OpenVector, Close, Dot, Marking, Atomic}
+use Rattle.datum_form.specs.Syntax.Syntax.{Leaf, Marked, Nil, Listed, Vector}
 use Rattle.datum_form.specs.Syntax.Rest.{End, More, Tail}
 use Rattle.datum_form.specs.Syntax.Elements.{Last, Further}
 
@@ -18,7 +20,7 @@ pub data Frame : Type 0 where
   -- a list whose tail has been read
   Tailed : Pos → Syntax → List Syntax → Pos → Syntax → Frame
   -- a vector
-  Rowing : Pos → List Syntax → Frame
+  InVector : Pos → List Syntax → Frame
   -- a mark that waits for its datum
   Waiting : Pos → Mark → Frame
 
@@ -28,7 +30,7 @@ frame_place (Opened p) = p
 frame_place (Listing p a is) = p
 frame_place (Dotted p a is d) = p
 frame_place (Tailed p a is d t) = p
-frame_place (Rowing p is) = p
+frame_place (InVector p is) = p
 frame_place (Waiting p m) = p
 
 -- how far a reading has come
@@ -55,7 +57,7 @@ room (Opened p ∷ fs) = true
 room (Listing p a is ∷ fs) = true
 room (Dotted p a is d ∷ fs) = true
 room (Tailed p a is d t ∷ fs) = false
-room (Rowing p is ∷ fs) = true
+room (InVector p is ∷ fs) = true
 room (Waiting p m ∷ fs) = true
 
 -- a tree is given to the innermost that is open, where there is room; a mark is closed by it
@@ -65,7 +67,7 @@ give n (Opened p ∷ fs) tops s = On n (Listing p s [] ∷ fs) tops
 give n (Listing p a is ∷ fs) tops s = On n (Listing p a (is ++ s ∷ []) ∷ fs) tops
 give n (Dotted p a is d ∷ fs) tops s = On n (Tailed p a is d s ∷ fs) tops
 give n (Tailed p a is d t ∷ fs) tops s = On n (Tailed p a is d s ∷ fs) tops
-give n (Rowing p is ∷ fs) tops s = On n (Rowing p (is ++ s ∷ []) ∷ fs) tops
+give n (InVector p is ∷ fs) tops s = On n (InVector p (is ++ s ∷ []) ∷ fs) tops
 give n (Waiting p m ∷ fs) tops s = give (suc n) fs tops (Marked p m s)
 
 abbrev pub in_room : Bool → Pos → Run → Run
@@ -82,25 +84,25 @@ dot n (Opened p ∷ fs) tops q = Stray q
 dot n (Listing p a is ∷ fs) tops q = On n (Dotted p a is q ∷ fs) tops
 dot n (Dotted p a is d ∷ fs) tops q = Stray q
 dot n (Tailed p a is d t ∷ fs) tops q = Stray q
-dot n (Rowing p is ∷ fs) tops q = Stray q
+dot n (InVector p is ∷ fs) tops q = Stray q
 dot n (Waiting p m ∷ fs) tops q = Stray q
 
 abbrev pub shut : ℕ → List Frame → List Syntax → Pos → Run
 shut n [] tops q = Stray q
-shut n (Opened p ∷ fs) tops q = give (suc n) fs tops (Empty p q)
+shut n (Opened p ∷ fs) tops q = give (suc n) fs tops (Nil p q)
 shut n (Listing p a is ∷ fs) tops q = give (suc n) fs tops (Listed p a (rest_of is End) q)
 shut n (Dotted p a is d ∷ fs) tops q = Stray q
 shut n (Tailed p a is d t ∷ fs) tops q = give (suc n) fs tops (Listed p a (rest_of is (Tail d t)) q)
-shut n (Rowing p is ∷ fs) tops q = give (suc n) fs tops (Vector p (elements_of is Last) q)
+shut n (InVector p is ∷ fs) tops q = give (suc n) fs tops (Vector p (elements_of is Last) q)
 shut n (Waiting p m ∷ fs) tops q = Stray q
 
 abbrev pub step : ℕ → List Frame → List Syntax → Token → Run
 step n fs tops (Open p) = in_room (room fs) p (open_one n (Opened p) fs tops p)
-step n fs tops (OpenVector p) = in_room (room fs) p (open_one n (Rowing p []) fs tops p)
+step n fs tops (OpenVector p) = in_room (room fs) p (open_one n (InVector p []) fs tops p)
 step n fs tops (Close q) = shut n fs tops q
 step n fs tops (Dot q) = dot n fs tops q
 step n fs tops (Marking p m) = in_room (room fs) p (open_one n (Waiting p m) fs tops p)
-step n fs tops (Single p a) = in_room (room fs) p (give n fs tops (Leaf p a))
+step n fs tops (Atomic p a) = in_room (room fs) p (give n fs tops (Leaf p a))
 
 abbrev pub run : Run → List Token → Run
 run (Stray p) ts = Stray p

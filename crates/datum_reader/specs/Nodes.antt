@@ -2,8 +2,7 @@
 use Rattle.std.specs.Prelude.{◌≡◌, ℕ, List as Seq, ◌++◌}
 use Rattle.scheme_base.specs.declared.pos.Pos.{Pos}
 use Rattle.datum_form.specs.declared.datums.Node.{Node}
-use Rattle.datum_form.specs.Data.{Datum, Items}
-use Rattle.datum_form.specs.Data.Datum.{Single, Chain, Dotted, Row}
+use Rattle.datum_form.specs.Data.{Datum, Datum as datum, Items}
 use Rattle.datum_form.specs.Data.Items.{none, item}
 use Rattle.datum_form.specs.Stands.{Stands}
 
@@ -19,7 +18,7 @@ append (item d is) js = item d (append is js)
 
 -- the list at a place that has these items before a tail, which is joined where it is a list itself
 abbrev pub tailed : Pos → Items → Datum → Datum
-tailed p is (Single q a) = Dotted p is (Single q a)
-tailed p is (Chain q js) = Chain p (append is js)
-tailed p is (Dotted q js t) = Dotted p (append is js) t
-tailed p is (Row q js) = Dotted p is (Row q js)
+tailed p is (datum.Atomic q a) = datum.Dotted p is (datum.Atomic q a)
+tailed p is (datum.List q js) = datum.List p (append is js)
+tailed p is (datum.Dotted q js t) = datum.Dotted p (append is js) t
+tailed p is (datum.Vector q js) = datum.Dotted p is (datum.Vector q js)

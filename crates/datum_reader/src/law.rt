@@ -1,6 +1,7 @@
 ghost use Rattle.std.specs.Prelude.{◌≡◌, ◌↔◌, ℕ, List, Some, ◌⊎◌};
 ghost use Rattle.scheme_base.specs.declared.pos.Pos.{Pos};
-ghost use Rattle.datum_form.specs.Syntax.{Token, Syntax, IsText};
+ghost use Rattle.datum_form.specs.declared.token.Token.{Token};
+ghost use Rattle.datum_form.specs.Syntax.{Syntax, IsText};
 ghost use Rattle.datum_form.specs.Faults.{Fault, HasFault};
 ghost use Rattle.datum_form.specs.Data.{Items};
 ghost use Rattle.datum_form.specs.Grammar.{IsSpelled};

@@ -7,8 +7,7 @@ ghost use Rattle.datum_reader.specs.Levels.{HoldsLevel, IsLevel, Closes, with_tr
 ghost use Rattle.datum_reader.specs.Machine.{Frame, frame_place};
 
 use crate::nodes::{dotted, list, vector};
-use crate::token::Mark;
-use datum_form::Nodes;
+use datum_form::{Mark, Nodes};
 use scheme_base::{Ids, List, Pos};
 use std::alloc::{AllocError, Global};
 
@@ -23,7 +22,7 @@ pub(crate) enum Level {
     /// A list whose tail has been read.
     Tailed(Pos, Ids, u32),
     /// A vector.
-    Rowing(Pos, Ids),
+    InVector(Pos, Ids),
     /// A mark that waits for its datum.
     Waiting(Pos, Mark),
 }
@@ -38,7 +37,7 @@ impl Level {
             Level::Listing(pos, _) => *pos,
             Level::Dotted(pos, _) => *pos,
             Level::Tailed(pos, _, _) => *pos,
-            Level::Rowing(pos, _) => *pos,
+            Level::InVector(pos, _) => *pos,
             Level::Waiting(pos, _) => *pos,
         }
     }
@@ -58,9 +57,9 @@ impl Level {
             }
             Level::Dotted(pos, items) => Ok(Level::Tailed(pos, items, id)),
             Level::Tailed(pos, items, _) => Ok(Level::Tailed(pos, items, id)),
-            Level::Rowing(pos, mut items) => {
+            Level::InVector(pos, mut items) => {
                 items.push(id)?;
-                Ok(Level::Rowing(pos, items))
+                Ok(Level::InVector(pos, items))
             }
             Level::Waiting(pos, mark) => Ok(Level::Waiting(pos, mark)),
         }
@@ -84,7 +83,7 @@ impl Level {
                 let id = dotted(nodes, items, tail, pos)?;
                 Ok(Some(id))
             }
-            Level::Rowing(pos, items) => {
+            Level::InVector(pos, items) => {
                 let id = vector(nodes, items, pos)?;
                 Ok(Some(id))
             }

@@ -2,8 +2,8 @@ ghost use Rattle.std.specs.Prelude.{◌≡◌, ◌+◌, ◌^◌, ◌<◌, ◌≤
 ghost use Rattle.scheme_base.specs.Positions.{position_after};
 ghost use Rattle.datum_reader.specs.Lexing.{Scans, Shorter};
 
-use crate::piece::{Piece, first_piece};
-use crate::token::Token;
+use crate::piece::first_piece;
+use datum_form::{Piece, Token};
 use scheme_base::Pos;
 use std::alloc::{AllocError, Global};
 
@@ -17,14 +17,14 @@ pub(crate) struct Spot<'a> {
 /// What a text begins with, after its blanks.
 #[derive(Debug, Drop)]
 pub(crate) enum Next<'a> {
-    /// A token, its place, and what follows it.
-    Token(Token, Pos, Spot<'a>),
+    /// A token, and what follows it.
+    Token(Token, Spot<'a>),
     /// Nothing.
     End,
     /// What is no token at this place.
     BadToken(Pos),
     BadNumber(Pos),
-    OpenText(Pos),
+    OpenString(Pos),
 }
 
 /// What is left after so many bytes.
@@ -53,14 +53,14 @@ pub(crate) fn next_token(alloc: Global, start: Spot<'_>) -> Result<Next<'_>, All
 {
     let mut spot = start;
     while !spot.rest.is_empty() {
-        match first_piece(alloc, spot.rest)? {
+        match first_piece(alloc, spot.pos, spot.rest)? {
             Piece::Blank(count) => spot = past(spot, count),
             Piece::Found(token, count) => {
-                return Ok(Next::Token(token, spot.pos, past(spot, count)));
+                return Ok(Next::Token(token, past(spot, count)));
             }
             Piece::BadToken => return Ok(Next::BadToken(spot.pos)),
             Piece::BadNumber => return Ok(Next::BadNumber(spot.pos)),
-            Piece::OpenText => return Ok(Next::OpenText(spot.pos)),
+            Piece::OpenString => return Ok(Next::OpenString(spot.pos)),
         }
     }
     Ok(Next::End)

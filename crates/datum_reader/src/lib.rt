@@ -24,7 +24,6 @@ mod piece;
 mod read;
 mod reading;
 mod string;
-mod token;
 mod word;
 
 pub use error::ReadErr;

@@ -1,14 +1,11 @@
 ghost use Rattle.std.specs.Prelude.{◌≡◌, ◌∷◌, ◌++◌, [], Some, None, ◌<◌, length, IfOk, OnOk, ℕ};
-ghost use Rattle.datum_form.specs.Data.{Datum, Items, mark_name};
-ghost use Rattle.datum_form.specs.Data.Datum.{Single, Chain, Row};
+ghost use Rattle.datum_form.specs.Data.{Datum, Datum as datum, Items, mark_name};
 ghost use Rattle.datum_form.specs.Data.Items.{none, item};
 ghost use Rattle.datum_form.specs.Stands.{Stands, StandAll};
-ghost use Rattle.datum_form.specs.Syntax.Atom.{Name};
-ghost use Rattle.datum_reader.specs.Found.{mark_of, atom_of};
+ghost use Rattle.datum_form.specs.declared.token.Atom.TheVariants.{Symbol};
 ghost use Rattle.datum_reader.specs.Nodes.{Builds, tailed};
 
-use crate::token::{Atom, Mark};
-use datum_form::{Kind, Node, Nodes};
+use datum_form::{Atom, Kind, Mark, Node, Nodes};
 use scheme_base::{Ids, List, Pos};
 use std::alloc::{AllocError, Global};
 
@@ -26,7 +23,7 @@ fn add(nodes: &mut Nodes, kind: Kind, pos: Pos) -> Result<u32, AllocError>
 
 /// A datum without parts.
 pub(crate) fn single(nodes: &mut Nodes, atom: Atom, pos: Pos) -> Result<u32, AllocError>
-    ensures { IfOk result (λ id. Builds nodes.old nodes.new id (Single pos (atom_of atom))) }
+    ensures { IfOk result (λ id. Builds nodes.old nodes.new id (datum.Atomic pos atom)) }
 {
     let kind = atom.kind();
     let id = add(nodes, kind, pos)?;
@@ -34,14 +31,14 @@ pub(crate) fn single(nodes: &mut Nodes, atom: Atom, pos: Pos) -> Result<u32, All
 }
 
 pub(crate) fn list(nodes: &mut Nodes, items: Ids, pos: Pos) -> Result<u32, AllocError>
-    ensures { IfOk result (λ id. (is : Items) → StandAll nodes.old items is → Builds nodes.old nodes.new id (Chain pos is)) }
+    ensures { IfOk result (λ id. (is : Items) → StandAll nodes.old items is → Builds nodes.old nodes.new id (datum.List pos is)) }
 {
     let id = add(nodes, Kind::List { items, tail: None }, pos)?;
     Ok(id)
 }
 
 pub(crate) fn vector(nodes: &mut Nodes, items: Ids, pos: Pos) -> Result<u32, AllocError>
-    ensures { IfOk result (λ id. (is : Items) → StandAll nodes.old items is → Builds nodes.old nodes.new id (Row pos is)) }
+    ensures { IfOk result (λ id. (is : Items) → StandAll nodes.old items is → Builds nodes.old nodes.new id (datum.Vector pos is)) }
 {
     let id = add(nodes, Kind::Vector { items }, pos)?;
     Ok(id)
@@ -90,14 +87,14 @@ pub(crate) fn marked(
     alloc: Global,
     nodes: &mut Nodes,
     mark: Mark,
-    datum: u32,
+    given: u32,
     pos: Pos,
 ) -> Result<u32, AllocError>
-    ensures { IfOk result (λ id. (d : Datum) → Stands nodes.old datum d → Builds nodes.old nodes.new id (Chain pos (item (Single pos (Name (mark_name (mark_of mark)))) (item d none)))) }
+    ensures { IfOk result (λ id. (d : Datum) → Stands nodes.old given d → Builds nodes.old nodes.new id (datum.List pos (item (datum.Atomic pos (Symbol (mark_name mark))) (item d none)))) }
 {
     let name = List::from_slice(alloc, mark.name())?;
-    let first = single(nodes, Atom::Name(name), pos)?;
-    let items = List::from_slice(alloc, &[first, datum])?;
+    let first = single(nodes, Atom::Symbol(name), pos)?;
+    let items = List::from_slice(alloc, &[first, given])?;
     let id = list(nodes, items, pos)?;
     Ok(id)
 }

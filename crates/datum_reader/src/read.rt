@@ -47,14 +47,15 @@ fn read_short(alloc: Global, text: &[u8]) -> Result<Datums, ReadErr>
         let Ok(next) = next_token(alloc, spot) else {
             return Err(ReadErr::NoMemory);
         };
-        let (token, pos, after) = match next {
-            Next::Token(token, pos, after) => (token, pos, after),
+        let (token, after) = match next {
+            Next::Token(token, after) => (token, after),
             Next::End => return reading.finish(),
             Next::BadToken(pos) => return Err(ReadErr::BadToken { pos }),
             Next::BadNumber(pos) => return Err(ReadErr::NumberRange { pos }),
-            Next::OpenText(pos) => return Err(ReadErr::Unclosed { pos }),
+            Next::OpenString(pos) => return Err(ReadErr::Unclosed { pos }),
         };
-        let Ok(taken) = reading.take(alloc, token, pos) else {
+        let pos = token.pos();
+        let Ok(taken) = reading.take(alloc, token) else {
             return Err(ReadErr::NoMemory);
         };
         match taken {

@@ -4,9 +4,8 @@ ghost use Rattle.scheme_base.specs.declared.pos.Pos.{Pos};
 ghost use Rattle.datum_form.specs.declared.datums.Node.{Node};
 ghost use Rattle.datum_form.specs.Data.{datum_of};
 ghost use Rattle.datum_form.specs.Stands.{Stands};
-ghost use Rattle.datum_form.specs.Syntax.{Syntax};
-ghost use Rattle.datum_form.specs.Syntax.Token.{Single};
-ghost use Rattle.datum_reader.specs.Found.{atom_of, token_at};
+ghost use Rattle.datum_form.specs.Syntax.{Syntax, place_of};
+ghost use Rattle.datum_form.specs.declared.token.Token.TheVariants.{Atomic};
 ghost use Rattle.datum_reader.specs.Levels.{HoldsLevel};
 ghost use Rattle.datum_reader.specs.Machine.{Frame, room, in_room, open_one, give, dot, shut, step, start};
 ghost use Rattle.datum_reader.specs.Machine.Run.{On};
@@ -16,8 +15,7 @@ ghost use Rattle.datum_reader.specs.Reading.{IsAt, IsReading, Innermost, Follows
 use crate::ReadErr;
 use crate::level::Level;
 use crate::nodes::{marked, single};
-use crate::token::{Atom, Token};
-use datum_form::{Datums, Nodes};
+use datum_form::{Atom, Datums, Nodes, Token};
 use scheme_base::{Ids, List, Pos};
 use std::alloc::{AllocError, Global};
 
@@ -92,7 +90,7 @@ impl Reading {
 
     /// Takes a datum without parts.
     fn single(&mut self, alloc: Global, atom: Atom, pos: Pos) -> Result<Taken, AllocError>
-        ensures { IfOk result (λ taken. (n : ℕ) (fs : Seq Frame) (us : Seq Syntax) → IsAt self.old (On n fs us) → Follows taken self.new pos (step n fs us (Single pos (atom_of atom)))) }
+        ensures { IfOk result (λ taken. (n : ℕ) (fs : Seq Frame) (us : Seq Syntax) → IsAt self.old (On n fs us) → Follows taken self.new pos (step n fs us (Atomic pos atom))) }
     {
         if !self.has_room() {
             return Ok(Taken::Stray);
@@ -150,23 +148,18 @@ impl Reading {
         Ok(Taken::Goes)
     }
 
-    /// Takes a token at a place.
-    pub(crate) fn take(
-        &mut self,
-        alloc: Global,
-        token: Token,
-        pos: Pos,
-    ) -> Result<Taken, AllocError>
+    /// Takes a token.
+    pub(crate) fn take(&mut self, alloc: Global, token: Token) -> Result<Taken, AllocError>
         requires { IsReading self.old }
-        ensures { IfOk result (λ taken. (n : ℕ) (fs : Seq Frame) (us : Seq Syntax) → IsAt self.old (On n fs us) → Follows taken self.new pos (step n fs us (token_at pos token))) }
+        ensures { IfOk result (λ taken. (n : ℕ) (fs : Seq Frame) (us : Seq Syntax) → IsAt self.old (On n fs us) → Follows taken self.new (place_of token) (step n fs us token)) }
     {
         let taken = match token {
-            Token::Open => self.open(Level::Opened(pos))?,
-            Token::OpenVector => self.open(Level::Rowing(pos, List::new(alloc)))?,
-            Token::Close => self.shut(alloc)?,
-            Token::Dot => self.dot()?,
-            Token::Marking(mark) => self.open(Level::Waiting(pos, mark))?,
-            Token::Single(atom) => self.single(alloc, atom, pos)?,
+            Token::Open(pos) => self.open(Level::Opened(pos))?,
+            Token::OpenVector(pos) => self.open(Level::InVector(pos, List::new(alloc)))?,
+            Token::Close(_) => self.shut(alloc)?,
+            Token::Dot(_) => self.dot()?,
+            Token::Marking(pos, mark) => self.open(Level::Waiting(pos, mark))?,
+            Token::Atomic(pos, atom) => self.single(alloc, atom, pos)?,
         };
         Ok(taken)
     }

@@ -1,22 +1,12 @@
 ghost use Rattle.std.specs.Prelude.{◌≡◌};
-ghost use Rattle.scheme_base.specs.declared.pos.Pos.{Pos};
+ghost use Rattle.datum_form.specs.declared.token.Atom.TheVariants.{Character};
+ghost use Rattle.datum_form.specs.declared.token.Token.TheVariants.{Atomic};
+ghost use Rattle.datum_form.specs.declared.piece.Word.TheVariants.{IsToken};
 ghost use Rattle.datum_form.specs.Words.{is_initial, is_subsequent, all_subsequent, is_ordinary, is_name, name_word, number, number_or_name, small_word, character_word};
-ghost use Rattle.datum_reader.specs.Found.{word_at, character_at};
 
 use crate::number::{Numeral, number};
-
-/// What a run of bytes is.
-#[derive(Clone, Copy, Debug)]
-pub(crate) enum Word {
-    Dot,
-    Boolean(bool),
-    Integer(i64),
-    /// The name that the run is.
-    Name,
-    /// A number that is not from -2^61 to 2^61 - 1.
-    OutOfRange,
-    NoWord,
-}
+use datum_form::{Atom, Token, Word};
+use scheme_base::{Bytes, Pos};
 
 fn is_initial(byte: u8) -> bool
     ensures { result ≡ is_initial byte }
@@ -61,52 +51,58 @@ fn is_name(text: &[u8]) -> bool
         || text == b"...".as_slice()
 }
 
-fn name_word(text: &[u8]) -> Word
-    ensures { (p : Pos) → name_word p text.now ≡ word_at p text.now result }
+fn name_word(pos: Pos, text: Bytes) -> Word
+    ensures { result ≡ name_word pos text }
 {
-    if is_name(text) {
-        Word::Name
+    if is_name(text.as_slice()) {
+        Word::IsToken(Token::Atomic(pos, Atom::Symbol(text)))
     } else {
         Word::NoWord
     }
 }
 
-fn number_or_name(text: &[u8]) -> Word
-    ensures { (p : Pos) → number_or_name p text.now (number text.now) ≡ word_at p text.now result }
+fn number_or_name(pos: Pos, text: Bytes) -> Word
+    ensures { result ≡ number_or_name pos text (number text) }
 {
-    match number(text) {
-        Numeral::Value(value) => Word::Integer(value),
+    match number(text.as_slice()) {
+        Numeral::Value(value) => Word::IsToken(Token::Atomic(pos, Atom::Integer(value))),
         Numeral::OutOfRange => Word::OutOfRange,
-        Numeral::NoNumber => name_word(text),
+        Numeral::NoNumber => name_word(pos, text),
     }
 }
 
 /// What a run is that begins no character, by its bytes in small letters.
-pub(crate) fn small_word(text: &[u8]) -> Word
-    ensures { (p : Pos) → small_word p text.now ≡ word_at p text.now result }
+pub(crate) fn small_word(pos: Pos, text: Bytes) -> Word
+    ensures { result ≡ small_word pos text }
 {
-    if text == b".".as_slice() {
-        Word::Dot
-    } else if text == b"#t".as_slice() {
-        Word::Boolean(true)
-    } else if text == b"#f".as_slice() {
-        Word::Boolean(false)
+    if text.as_slice() == b".".as_slice() {
+        Word::IsToken(Token::Dot(pos))
+    } else if text.as_slice() == b"#t".as_slice() {
+        Word::IsToken(Token::Atomic(pos, Atom::Boolean(true)))
+    } else if text.as_slice() == b"#f".as_slice() {
+        Word::IsToken(Token::Atomic(pos, Atom::Boolean(false)))
     } else {
-        number_or_name(text)
+        number_or_name(pos, text)
     }
 }
 
-/// The character that a run is which begins with `#\`.
-pub(crate) fn character_word(text: &[u8]) -> Option<u8>
-    ensures { (p : Pos) → character_word p text.now ≡ character_at p result }
+fn character(pos: Pos, byte: u8) -> Word
+    ensures { result ≡ IsToken (Atomic pos (Character byte)) }
+{
+    Word::IsToken(Token::Atomic(pos, Atom::Character(byte)))
+}
+
+/// What a run is that begins with `#\`.
+pub(crate) fn character_word(pos: Pos, text: &[u8]) -> Word
+    ensures { result ≡ character_word pos text.now }
 {
     if text.len() == 3 {
-        Some(text[2])
+        character(pos, text[2])
     } else if text.eq_ignore_ascii_case(b"#\\space") {
-        Some(b' ')
+        character(pos, b' ')
     } else if text.eq_ignore_ascii_case(b"#\\newline") {
-        Some(b'\n')
+        character(pos, b'\n')
     } else {
-        None
+        Word::NoWord
     }
 }

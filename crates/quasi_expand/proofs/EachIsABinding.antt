@@ -3,9 +3,8 @@ use Rattle.std.proofs.Common.{◌≡◌, ℕ, Bool, true, false, List as Seq, []
 use Rattle.std.specs.Prelude.{◌&&◌}
 use Rattle.std.specs.Option.{is_some}
 use Rattle.datum_form.specs.declared.datums.Node.{Node}
-use Rattle.datum_form.specs.Syntax.Atom.{Integer, Boolean, Character, Text, Name}
-use Rattle.datum_form.specs.Data.{Datum, Items}
-use Rattle.datum_form.specs.Data.Datum.{Single, Chain, Dotted, Row}
+use Rattle.datum_form.specs.declared.token.Atom.TheVariants.{Integer, Boolean, Character, String, Symbol}
+use Rattle.datum_form.specs.Data.{Datum, Datum as datum, Items}
 use Rattle.datum_form.specs.Data.Items.{none, item}
 use Rattle.datum_form.specs.Stands.{Stands, StandAll}
 use Rattle.quasi_expand.specs.declared.do_loop.DoBinding.{DoBinding}
@@ -16,42 +15,42 @@ use Rattle.quasi_expand.proofs.FirstItem.{first_of, after_first, agree_some}
 
 -- a binding is what has its parts
 has_parts : (d : Datum) → is_some (step_of d) ≡ is_step d
-has_parts (Single p a) = refl
-has_parts (Dotted p is d) = refl
-has_parts (Row p is) = refl
-has_parts (Chain p none) = refl
-has_parts (Chain p (item (Single q (Integer n)) none)) = refl
-has_parts (Chain p (item (Single q (Boolean b)) none)) = refl
-has_parts (Chain p (item (Single q (Character c)) none)) = refl
-has_parts (Chain p (item (Single q (Text bytes)) none)) = refl
-has_parts (Chain p (item (Single q (Name x)) none)) = refl
-has_parts (Chain p (item (Chain q is) none)) = refl
-has_parts (Chain p (item (Dotted q is d) none)) = refl
-has_parts (Chain p (item (Row q is) none)) = refl
-has_parts (Chain p (item (Single q (Integer n)) (item e none))) = refl
-has_parts (Chain p (item (Single q (Boolean b)) (item e none))) = refl
-has_parts (Chain p (item (Single q (Character c)) (item e none))) = refl
-has_parts (Chain p (item (Single q (Text bytes)) (item e none))) = refl
-has_parts (Chain p (item (Single q (Name x)) (item e none))) = refl
-has_parts (Chain p (item (Chain q is) (item e none))) = refl
-has_parts (Chain p (item (Dotted q is d) (item e none))) = refl
-has_parts (Chain p (item (Row q is) (item e none))) = refl
-has_parts (Chain p (item (Single q (Integer n)) (item e (item f none)))) = refl
-has_parts (Chain p (item (Single q (Boolean b)) (item e (item f none)))) = refl
-has_parts (Chain p (item (Single q (Character c)) (item e (item f none)))) = refl
-has_parts (Chain p (item (Single q (Text bytes)) (item e (item f none)))) = refl
-has_parts (Chain p (item (Single q (Name x)) (item e (item f none)))) = refl
-has_parts (Chain p (item (Chain q is) (item e (item f none)))) = refl
-has_parts (Chain p (item (Dotted q is d) (item e (item f none)))) = refl
-has_parts (Chain p (item (Row q is) (item e (item f none)))) = refl
-has_parts (Chain p (item (Single q (Integer n)) (item e (item f (item g gs))))) = refl
-has_parts (Chain p (item (Single q (Boolean b)) (item e (item f (item g gs))))) = refl
-has_parts (Chain p (item (Single q (Character c)) (item e (item f (item g gs))))) = refl
-has_parts (Chain p (item (Single q (Text bytes)) (item e (item f (item g gs))))) = refl
-has_parts (Chain p (item (Single q (Name x)) (item e (item f (item g gs))))) = refl
-has_parts (Chain p (item (Chain q is) (item e (item f (item g gs))))) = refl
-has_parts (Chain p (item (Dotted q is d) (item e (item f (item g gs))))) = refl
-has_parts (Chain p (item (Row q is) (item e (item f (item g gs))))) = refl
+has_parts (datum.Atomic p a) = refl
+has_parts (datum.Dotted p is d) = refl
+has_parts (datum.Vector p is) = refl
+has_parts (datum.List p none) = refl
+has_parts (datum.List p (item (datum.Atomic q (Integer n)) none)) = refl
+has_parts (datum.List p (item (datum.Atomic q (Boolean b)) none)) = refl
+has_parts (datum.List p (item (datum.Atomic q (Character c)) none)) = refl
+has_parts (datum.List p (item (datum.Atomic q (String bytes)) none)) = refl
+has_parts (datum.List p (item (datum.Atomic q (Symbol x)) none)) = refl
+has_parts (datum.List p (item (datum.List q is) none)) = refl
+has_parts (datum.List p (item (datum.Dotted q is d) none)) = refl
+has_parts (datum.List p (item (datum.Vector q is) none)) = refl
+has_parts (datum.List p (item (datum.Atomic q (Integer n)) (item e none))) = refl
+has_parts (datum.List p (item (datum.Atomic q (Boolean b)) (item e none))) = refl
+has_parts (datum.List p (item (datum.Atomic q (Character c)) (item e none))) = refl
+has_parts (datum.List p (item (datum.Atomic q (String bytes)) (item e none))) = refl
+has_parts (datum.List p (item (datum.Atomic q (Symbol x)) (item e none))) = refl
+has_parts (datum.List p (item (datum.List q is) (item e none))) = refl
+has_parts (datum.List p (item (datum.Dotted q is d) (item e none))) = refl
+has_parts (datum.List p (item (datum.Vector q is) (item e none))) = refl
+has_parts (datum.List p (item (datum.Atomic q (Integer n)) (item e (item f none)))) = refl
+has_parts (datum.List p (item (datum.Atomic q (Boolean b)) (item e (item f none)))) = refl
+has_parts (datum.List p (item (datum.Atomic q (Character c)) (item e (item f none)))) = refl
+has_parts (datum.List p (item (datum.Atomic q (String bytes)) (item e (item f none)))) = refl
+has_parts (datum.List p (item (datum.Atomic q (Symbol x)) (item e (item f none)))) = refl
+has_parts (datum.List p (item (datum.List q is) (item e (item f none)))) = refl
+has_parts (datum.List p (item (datum.Dotted q is d) (item e (item f none)))) = refl
+has_parts (datum.List p (item (datum.Vector q is) (item e (item f none)))) = refl
+has_parts (datum.List p (item (datum.Atomic q (Integer n)) (item e (item f (item g gs))))) = refl
+has_parts (datum.List p (item (datum.Atomic q (Boolean b)) (item e (item f (item g gs))))) = refl
+has_parts (datum.List p (item (datum.Atomic q (Character c)) (item e (item f (item g gs))))) = refl
+has_parts (datum.List p (item (datum.Atomic q (String bytes)) (item e (item f (item g gs))))) = refl
+has_parts (datum.List p (item (datum.Atomic q (Symbol x)) (item e (item f (item g gs))))) = refl
+has_parts (datum.List p (item (datum.List q is) (item e (item f (item g gs))))) = refl
+has_parts (datum.List p (item (datum.Dotted q is d) (item e (item f (item g gs))))) = refl
+has_parts (datum.List p (item (datum.Vector q is) (item e (item f (item g gs))))) = refl
 
 -- what is found says whether the first of the data is a binding
 found : (nodes : Seq Node) (first : ℕ) (d : Datum) (o : Option DoBinding) → Stands nodes first d

@@ -3,8 +3,7 @@ use Rattle.std.proofs.Common.{◌≡◌, ℕ, Bool, true, false, List as Seq, []
 use Rattle.std.specs.Prelude.{◌&&◌, ◌||◌, if◌then◌else◌, codes}
 use Rattle.std.specs.Option.{is_some, option_copied}
 use Rattle.datum_form.specs.declared.datums.Node.{Node}
-use Rattle.datum_form.specs.Data.{Datum, Items}
-use Rattle.datum_form.specs.Data.Datum.{Single, Chain, Dotted, Row}
+use Rattle.datum_form.specs.Data.{Datum, Datum as datum, Items}
 use Rattle.datum_form.specs.Data.Items.{none, item}
 use Rattle.datum_form.specs.Stands.{Stands, StandAll}
 use Rattle.quasi_expand.specs.declared.case.CaseClause.{CaseClause}
@@ -38,18 +37,18 @@ word_fits false true es = refl
 word_fits false false es = refl
 
 case_fits : (last : Bool) (d : Datum) → is_case last d ≡ fits last (clause_of d)
-case_fits last (Single p a) = refl
-case_fits last (Dotted p is d) = refl
-case_fits last (Row p is) = refl
-case_fits last (Chain p none) = refl
-case_fits last (Chain p (item (Single q a) none)) = and_false (last && is_word (codes "else") (Single q a))
-case_fits last (Chain p (item (Chain q is) none)) = refl
-case_fits last (Chain p (item (Dotted q is d) none)) = and_false (last && false)
-case_fits last (Chain p (item (Row q is) none)) = and_false (last && false)
-case_fits last (Chain p (item (Single q a) (item e es))) = word_fits last (is_word (codes "else") (Single q a)) (item e es)
-case_fits last (Chain p (item (Chain q is) (item e es))) = any_fit last
-case_fits last (Chain p (item (Dotted q is d) (item e es))) = no_fit last
-case_fits last (Chain p (item (Row q is) (item e es))) = no_fit last
+case_fits last (datum.Atomic p a) = refl
+case_fits last (datum.Dotted p is d) = refl
+case_fits last (datum.Vector p is) = refl
+case_fits last (datum.List p none) = refl
+case_fits last (datum.List p (item (datum.Atomic q a) none)) = and_false (last && is_word (codes "else") (datum.Atomic q a))
+case_fits last (datum.List p (item (datum.List q is) none)) = refl
+case_fits last (datum.List p (item (datum.Dotted q is d) none)) = and_false (last && false)
+case_fits last (datum.List p (item (datum.Vector q is) none)) = and_false (last && false)
+case_fits last (datum.List p (item (datum.Atomic q a) (item e es))) = word_fits last (is_word (codes "else") (datum.Atomic q a)) (item e es)
+case_fits last (datum.List p (item (datum.List q is) (item e es))) = any_fit last
+case_fits last (datum.List p (item (datum.Dotted q is d) (item e es))) = no_fit last
+case_fits last (datum.List p (item (datum.Vector q is) (item e es))) = no_fit last
 
 -- what is found of a clause, the last one or not
 abbrev found_fits : (last : Bool) → Option CaseClause → Bool

@@ -2,8 +2,7 @@
 use Rattle.std.specs.Prelude.{List, Option, Some, None, if◌then◌else◌, codes}
 use Rattle.std.specs.Option.{option_copied, option_map}
 use Rattle.datum_form.specs.declared.datums.Node.{Node}
-use Rattle.datum_form.specs.Data.{Datum, Items}
-use Rattle.datum_form.specs.Data.Datum.{Chain}
+use Rattle.datum_form.specs.Data.{Datum, Datum as datum, Items}
 use Rattle.datum_form.specs.Data.Items.{item}
 use Rattle.datum_form.specs.Stands.{Stands, StandAll}
 use Rattle.quasi_expand.specs.Agreement.{Agree}
@@ -20,7 +19,7 @@ abbrev pub clause_for : Items → Items → Clause
 clause_for ds es = record { given = Some ds; chosen = es }
 
 abbrev pub clause_of : Datum → Option Clause
-clause_of (Chain p (item d (item e es))) =
+clause_of (datum.List p (item d (item e es))) =
     if is_word (codes "else") d then Some (record { given = None; chosen = item e es })
     else option_map (λ ds. clause_for ds (item e es)) (list_of d)
 clause_of d = None

@@ -2,9 +2,8 @@
 use Rattle.std.specs.Prelude.{ℕ, List, Option, Some, None}
 use Rattle.datum_form.specs.declared.datums.Kind.{Kind}
 use Rattle.datum_form.specs.declared.datums.Kind.TheVariants as kind
-use Rattle.datum_form.specs.Syntax.Atom.{Name}
-use Rattle.datum_form.specs.Data.{Datum}
-use Rattle.datum_form.specs.Data.Datum.{Single}
+use Rattle.datum_form.specs.declared.token.Atom.TheVariants.{Symbol}
+use Rattle.datum_form.specs.Data.{Datum, Datum as datum}
 
 abbrev pub list_kind : Kind → Option (List ℕ)
 list_kind (kind.List ids None) = Some ids
@@ -15,5 +14,5 @@ name_kind (kind.Name bytes) = Some bytes
 name_kind k = None
 
 abbrev pub name_of : Datum → Option (List ℕ)
-name_of (Single p (Name x)) = Some x
+name_of (datum.Atomic p (Symbol x)) = Some x
 name_of d = None

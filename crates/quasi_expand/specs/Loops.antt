@@ -1,8 +1,7 @@
 -- `do` (R4RS 4.2.4), as a datum, and as it is read from nodes.
 use Rattle.std.specs.Prelude.{List, Option, Some, None, if◌then◌else◌}
 use Rattle.datum_form.specs.declared.datums.Node.{Node}
-use Rattle.datum_form.specs.Data.{Datum, Items}
-use Rattle.datum_form.specs.Data.Datum.{Chain}
+use Rattle.datum_form.specs.Data.{Datum, Datum as datum, Items}
 use Rattle.datum_form.specs.Data.Items.{none, item}
 use Rattle.datum_form.specs.Stands.{Stands, StandAll}
 use Rattle.quasi_expand.specs.Agreement.{Agree}
@@ -17,9 +16,9 @@ pub record Step : Type 0 where
   pub next : Option Datum
 
 abbrev pub step_of : Datum → Option Step
-step_of (Chain p (item v (item e none))) =
+step_of (datum.List p (item v (item e none))) =
     if is_name v then Some (record { name = v; first = e; next = None }) else None
-step_of (Chain p (item v (item e (item f none)))) =
+step_of (datum.List p (item v (item e (item f none)))) =
     if is_name v then Some (record { name = v; first = e; next = Some f }) else None
 step_of d = None
 

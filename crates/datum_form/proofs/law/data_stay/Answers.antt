@@ -1,4 +1,4 @@
-use Rattle.datum_form.proofs.Grown.{grown, grown_all}
+use Rattle.datum_form.proofs.DataStay.{grown, grown_all}
 use Rattle.datum_form.proofs.law.data_stay.Goals as goal
 
 pub returns-clause-node : goal.returns-clause-node

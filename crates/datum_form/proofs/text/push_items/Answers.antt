@@ -1,6 +1,6 @@
 use Rattle.std.proofs.Common.{List, ℕ, subst}
 use Rattle.datum_form.specs.Stands.{StandAll}
-use Rattle.datum_form.proofs.Printing.{no_items, none_left, items_pushed}
+use Rattle.datum_form.proofs.PrintedByParts.{no_items, none_left, items_pushed}
 use Rattle.datum_form.proofs.text.push_items.Goals as goal
 
 pub returns-in_default : goal.returns-in_default

@@ -1,6 +1,6 @@
 use Rattle.std.proofs.Common.{◌++◌, ◌∷◌, [], sym, ap, ◌∙◌, append_assoc}
 use Rattle.std.proofs.lemmas.List.{append-nil}
-use Rattle.datum_form.proofs.Printing.{none_pushed, other_pushed}
+use Rattle.datum_form.proofs.PrintedByParts.{none_pushed, other_pushed}
 use Rattle.datum_form.proofs.text.push_others.Goals as goal
 
 pub loop-last-init : goal.loop-last-init

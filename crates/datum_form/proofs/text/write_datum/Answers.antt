@@ -1,7 +1,7 @@
 use Rattle.std.proofs.Common.{◌≡◌, [], ◌++◌, arith}
 use Rattle.std.proofs.lemmas.Grind.{common_steps}
 use Rattle.datum_form.specs.Print.{text_of}
-use Rattle.datum_form.proofs.Printing.{first_pending, one_printed, all_left}
+use Rattle.datum_form.proofs.PrintedByParts.{first_pending, one_printed, all_left}
 use Rattle.datum_form.proofs.text.write_datum.Goals as goal
 
 pub loop-turn-init : goal.loop-turn-init

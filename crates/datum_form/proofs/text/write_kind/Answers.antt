@@ -1,6 +1,6 @@
 use Rattle.std.proofs.Common.{List as Seq, ℕ, subst, sym}
 use Rattle.datum_form.specs.Stands.{StandAll}
-use Rattle.datum_form.proofs.Printing.{list_printed, vector_printed}
+use Rattle.datum_form.proofs.PrintedByParts.{list_printed, vector_printed}
 use Rattle.datum_form.proofs.text.write_kind.Goals as goal
 
 pub returns-in_ok-push_items-in-List : goal.returns-in_ok-push_items-in-List

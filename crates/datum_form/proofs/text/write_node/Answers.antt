@@ -1,6 +1,6 @@
 use Rattle.std.proofs.Common.{ap, ◌∙◌, sym}
 use Rattle.std.specs.Option.{option_copied}
-use Rattle.datum_form.proofs.Printing.{is_there}
+use Rattle.datum_form.proofs.PrintedByParts.{is_there}
 use Rattle.datum_form.proofs.text.write_node.Goals as goal
 
 pub returns-in_default : goal.returns-in_default

@@ -1,6 +1,6 @@
 use Rattle.std.proofs.Common.{List as Seq, ℕ, subst}
 use Rattle.datum_form.specs.Stands.{StandAll}
-use Rattle.datum_form.proofs.Printing.{line_printed, lines_printed}
+use Rattle.datum_form.proofs.PrintedByParts.{line_printed, lines_printed}
 use Rattle.datum_form.proofs.text.write_text.Goals as goal
 
 pub loop-first-preserved : goal.loop-first-preserved

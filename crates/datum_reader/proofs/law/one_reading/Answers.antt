@@ -1,4 +1,4 @@
-use Rattle.datum_reader.proofs.WholeTrees.{one_text}
+use Rattle.datum_reader.proofs.WholeTreesAreRead.{one_text}
 use Rattle.datum_reader.proofs.OneReading.{one_fault, text_or_fault, outcome}
 use Rattle.datum_reader.proofs.law.one_reading.Goals as goal
 

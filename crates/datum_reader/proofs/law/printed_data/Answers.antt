@@ -1,4 +1,4 @@
-use Rattle.datum_reader.proofs.Again.{reads_again}
+use Rattle.datum_reader.proofs.ReadDataAreValid.{reads_again}
 use Rattle.datum_reader.proofs.law.printed_data.Goals as goal
 
 pub returns : goal.returns

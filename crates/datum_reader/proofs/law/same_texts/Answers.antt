@@ -1,4 +1,4 @@
-use Rattle.datum_reader.proofs.Texts.{tokens_lexed, lexed_tokens}
+use Rattle.datum_reader.proofs.TokensFoundAreSpelled.{tokens_lexed, lexed_tokens}
 use Rattle.datum_reader.proofs.law.same_texts.Goals as goal
 
 pub returns : goal.returns

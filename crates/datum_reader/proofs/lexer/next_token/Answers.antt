@@ -1,10 +1,9 @@
 use Rattle.std.proofs.Common.{◌≡◌, ◌<◌, length, take, drop, ap, sym, ◌∙◌, rules, arith, length-drop}
 use Rattle.scheme_base.specs.Positions.{position_after}
 use Rattle.datum_form.specs.Text.{lexed_after, piece}
-use Rattle.datum_form.specs.Text.Piece.{Blank, Found}
-use Rattle.datum_reader.specs.Found.{piece_at, token_at}
+use Rattle.datum_form.specs.declared.piece.Piece.TheVariants.{Blank, Found}
 use Rattle.datum_reader.specs.Lexing.{token_then}
-use Rattle.datum_reader.proofs.Lexing.{piece_length_some, after_blank, at_token}
+use Rattle.datum_reader.proofs.TokensByPieces.{piece_length_some, after_blank, at_token}
 use Rattle.datum_reader.proofs.lexer.next_token.Goals as goal
 
 pub loop-spot-smaller : goal.loop-spot-smaller
@@ -13,7 +12,7 @@ loop-spot-smaller c =
     let p = c.loop-spot.spot.pos in
     let n = c.in-Blank.count in
     let there : 0 < length rest = search rules in
-    let is : piece p rest ≡ Blank n = c.in_ok-count.ensures.value p ∙ ap (piece_at p) c.in-Blank.is in
+    let is : piece p rest ≡ Blank n = sym c.in_ok-count.ensures.value ∙ c.in-Blank.is in
     let some : 0 < n = piece_length_some p rest (Blank n) there is in
     let shorter : length c.past-spot.result.rest.now < length rest =
     omega (arith, ap length c.past-spot.ensures.rest, length-drop n rest, some, there) in
@@ -25,7 +24,7 @@ loop-spot-preserved c =
     let p = c.loop-spot.spot.pos in
     let n = c.in-Blank.count in
     let there : 0 < length rest = search rules in
-    let is : piece p rest ≡ Blank n = c.in_ok-count.ensures.value p ∙ ap (piece_at p) c.in-Blank.is in
+    let is : piece p rest ≡ Blank n = sym c.in_ok-count.ensures.value ∙ c.in-Blank.is in
     let after = c.past-spot.result in
     record {
       same =
@@ -48,9 +47,9 @@ returns-in-Found-clause-value c =
     let rest = c.loop-spot.spot.rest.now in
     let p = c.loop-spot.spot.pos in
     let n = c.in-Found.count in
-    let t = token_at p c.in-Found.token in
+    let t = c.in-Found.token in
     let there : 0 < length rest = search rules in
-    let is : piece p rest ≡ Found t n = c.in_ok-count.ensures.value p ∙ ap (piece_at p) c.in-Found.is in
+    let is : piece p rest ≡ Found t n = sym c.in_ok-count.ensures.value ∙ c.in-Found.is in
     let after = c.past.result in
     sym c.loop-spot.invariant.same
     ∙ (at_token p rest t n there is
@@ -62,9 +61,9 @@ returns-in-Found-clause-shorter c =
     let rest = c.loop-spot.spot.rest.now in
     let p = c.loop-spot.spot.pos in
     let n = c.in-Found.count in
-    let t = token_at p c.in-Found.token in
+    let t = c.in-Found.token in
     let there : 0 < length rest = search rules in
-    let is : piece p rest ≡ Found t n = c.in_ok-count.ensures.value p ∙ ap (piece_at p) c.in-Found.is in
+    let is : piece p rest ≡ Found t n = sym c.in_ok-count.ensures.value ∙ c.in-Found.is in
     let some : 0 < n = piece_length_some p rest (Found t n) there is in
     record {
       shorter =

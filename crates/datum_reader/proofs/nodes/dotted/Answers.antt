@@ -2,7 +2,7 @@ use Rattle.std.proofs.Common.{refl, Some, length, get_or, ◌≡◌, ◌++◌, �
 use Rattle.std.specs.Prelude.{slice_get}
 use Rattle.std.proofs.lemmas.Option.{slice_get_read}
 use Rattle.datum_form.specs.declared.datums.Kind.TheVariants as kind
-use Rattle.datum_reader.proofs.Builds.{node, same_kind, joins, stays_dotted}
+use Rattle.datum_reader.proofs.AddedNodeStands.{node, same_kind, joins, stays_dotted}
 use Rattle.datum_reader.proofs.nodes.dotted.Goals as goal
 
 pub returns-in_ok-id-in-List : goal.returns-in_ok-id-in-List

@@ -1,4 +1,4 @@
-use Rattle.datum_reader.proofs.Builds.{list_builds}
+use Rattle.datum_reader.proofs.AddedNodeStands.{list_builds}
 use Rattle.datum_reader.proofs.nodes.list.Goals as goal
 
 pub returns : goal.returns

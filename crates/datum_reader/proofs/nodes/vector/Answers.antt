@@ -1,4 +1,4 @@
-use Rattle.datum_reader.proofs.Builds.{vector_builds}
+use Rattle.datum_reader.proofs.AddedNodeStands.{vector_builds}
 use Rattle.datum_reader.proofs.nodes.vector.Goals as goal
 
 pub returns : goal.returns

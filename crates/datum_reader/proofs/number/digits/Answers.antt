@@ -1,6 +1,6 @@
 use Rattle.std.proofs.Common.{◌+◌, ◌*◌, ap, ◌∙◌, arith}
 use Rattle.datum_reader.specs.Numbers.{bounded}
-use Rattle.datum_reader.proofs.Numbers.{one_digit}
+use Rattle.datum_reader.proofs.BoundedNumbers.{one_digit}
 use Rattle.datum_reader.proofs.number.digits.Goals as goal
 
 pub loop-first-preserved : goal.loop-first-preserved

@@ -1,4 +1,4 @@
-use Rattle.datum_reader.proofs.Turns.{only_data, only_fault}
+use Rattle.datum_reader.proofs.AnswerFollows.{only_data, only_fault}
 use Rattle.datum_reader.proofs.read.read_program.Goals as goal
 
 pub returns-clause-data : goal.returns-clause-data

@@ -1,15 +1,16 @@
-use Rattle.std.proofs.Common.{[], refl, subst, arith}
+use Rattle.std.proofs.Common.{[], refl, sym, subst, arith}
+use Rattle.scheme_base.specs.declared.pos.Pos.{Pos}
+use Rattle.datum_form.specs.Syntax.{place_of}
 use Rattle.datum_form.specs.Text.{lexed}
 use Rattle.datum_form.specs.Text.Ending.{BadAt, RangeAt, OpenAt}
-use Rattle.datum_reader.specs.declared.error.ReadErr.TheVariants.{Unclosed, BadToken, NumberRange}
+use Rattle.datum_reader.specs.declared.error.ReadErr.TheVariants.{Unclosed, Stray, BadToken, NumberRange, TooDeep}
 use Rattle.datum_reader.specs.declared.lexer.Next.{Next}
 use Rattle.datum_reader.specs.declared.reading.Taken.{Taken}
-use Rattle.datum_reader.specs.Found.{token_at}
 use Rattle.datum_reader.specs.Lexing.{Scans, Shorter, ends}
 use Rattle.datum_reader.specs.Machine.{step}
 use Rattle.datum_reader.specs.Reading.{Follows}
-use Rattle.datum_reader.specs.Answer.{max_depth}
-use Rattle.datum_reader.proofs.Turns.{fault_read, told_then, goes_on, stray_read, deep_read, all_read}
+use Rattle.datum_reader.specs.Answer.{max_depth, ReadFault}
+use Rattle.datum_reader.proofs.AnswerFollows.{fault_read, told_then, goes_on, stray_read, deep_read, all_read}
 use Rattle.datum_reader.proofs.read.read_short.Goals as goal
 
 pub loop-next-init : goal.loop-next-init
@@ -57,14 +58,14 @@ returns-in-BadNumber c =
     fault_read c.args.text.now (NumberRange c.in-BadNumber.pos) c.requires
     (told_then (lexed c.args.text.now) (ends (RangeAt c.in-BadNumber.pos)) c.loop-next.reading spot p e)
 
-pub returns-in-OpenText : goal.returns-in-OpenText
-returns-in-OpenText c =
+pub returns-in-OpenString : goal.returns-in-OpenString
+returns-in-OpenString c =
     let p = c.loop-next.invariant.pending in
     let spot = c.loop-next.spot in
     let P : Next → Type 0 = λ x. Scans spot x in
-    let e = subst P c.in-OpenText.is c.in-Ok.ensures.value in
-    fault_read c.args.text.now (Unclosed c.in-OpenText.pos) c.requires
-    (told_then (lexed c.args.text.now) (ends (OpenAt c.in-OpenText.pos)) c.loop-next.reading spot p e)
+    let e = subst P c.in-OpenString.is c.in-Ok.ensures.value in
+    fault_read c.args.text.now (Unclosed c.in-OpenString.pos) c.requires
+    (told_then (lexed c.args.text.now) (ends (OpenAt c.in-OpenString.pos)) c.loop-next.reading spot p e)
 
 pub loop-next-smaller : goal.loop-next-smaller
 loop-next-smaller c =
@@ -77,17 +78,17 @@ loop-next-preserved c =
     let i = c.loop-next.invariant in
     let p = i.pending in
     let spot = c.loop-next.spot in
-    let pos = c.in-Token.pos in
+    let pos = place_of c.in-Token.token in
     let P : Next → Type 0 = λ x. Scans spot x in
     let S : Next → Type 0 = λ x. Shorter spot x in
-    let Q : Taken → Type 0 = λ x. Follows x c.take.new.self pos (step p.state.room p.state.frames p.state.trees (token_at pos c.in-Token.token)) in
+    let Q : Taken → Type 0 = λ x. Follows x c.take.new.self pos (step p.state.room p.state.frames p.state.trees c.in-Token.token) in
     let e = subst P c.in-Token.is c.in-Ok.ensures.value in
     let past = subst S c.in-Token.is c.in-Ok.ensures.shorter in
     let at = subst Q c.in-Goes.is (c.in-Ok-take.ensures p.state.room p.state.frames p.state.trees p.state.holds) in
     record {
       pending =
           goes_on (lexed c.args.text.now) c.loop-next.reading c.take.new.self spot c.in-Token.after
-          (token_at pos c.in-Token.token) p e at;
+          c.in-Token.token p e at;
       line = omega (arith, i.line, past.line);
       col = omega (arith, i.col, past.col);
     }
@@ -97,24 +98,28 @@ returns-in-Stray c =
     let p = c.loop-next.invariant.pending in
     let spot = c.loop-next.spot in
     let reading = c.loop-next.reading in
-    let pos = c.in-Token.pos in
+    let pos = place_of c.in-Token.token in
     let P : Next → Type 0 = λ x. Scans spot x in
-    let Q : Taken → Type 0 = λ x. Follows x c.take.new.self pos (step p.state.room p.state.frames p.state.trees (token_at pos c.in-Token.token)) in
+    let Q : Taken → Type 0 = λ x. Follows x c.take.new.self pos (step p.state.room p.state.frames p.state.trees c.in-Token.token) in
     let e = subst P c.in-Token.is c.in-Ok.ensures.value in
     let stops = subst Q c.in-Stray.is (c.in-Ok-take.ensures p.state.room p.state.frames p.state.trees p.state.holds) in
-    stray_read c.args.text.now reading spot c.in-Token.after (token_at pos c.in-Token.token) pos p c.requires e stops
+    let R : Pos → Type 0 = λ q. ReadFault c.args.text.now (Stray q) in
+    subst R (sym c.pos-pos.ensures)
+    (stray_read c.args.text.now reading spot c.in-Token.after c.in-Token.token pos p c.requires e stops)
 
 pub returns-in-Deep : goal.returns-in-Deep
 returns-in-Deep c =
     let p = c.loop-next.invariant.pending in
     let spot = c.loop-next.spot in
     let reading = c.loop-next.reading in
-    let pos = c.in-Token.pos in
+    let pos = place_of c.in-Token.token in
     let P : Next → Type 0 = λ x. Scans spot x in
-    let Q : Taken → Type 0 = λ x. Follows x c.take.new.self pos (step p.state.room p.state.frames p.state.trees (token_at pos c.in-Token.token)) in
+    let Q : Taken → Type 0 = λ x. Follows x c.take.new.self pos (step p.state.room p.state.frames p.state.trees c.in-Token.token) in
     let e = subst P c.in-Token.is c.in-Ok.ensures.value in
     let stops = subst Q c.in-Deep.is (c.in-Ok-take.ensures p.state.room p.state.frames p.state.trees p.state.holds) in
-    deep_read c.args.text.now reading spot c.in-Token.after (token_at pos c.in-Token.token) pos p c.requires e stops
+    let R : Pos → Type 0 = λ q. ReadFault c.args.text.now (TooDeep q) in
+    subst R (sym c.pos-pos.ensures)
+    (deep_read c.args.text.now reading spot c.in-Token.after c.in-Token.token pos p c.requires e stops)
 
 pub take-requires : goal.take-requires
 take-requires c = c.loop-next.invariant.pending.state

@@ -1,6 +1,6 @@
 use Rattle.std.proofs.Common.{◌+◌, ◌≤◌, length}
 use Rattle.datum_form.specs.Text.{lexed}
-use Rattle.datum_reader.proofs.Turns.{Pending}
+use Rattle.datum_reader.proofs.AnswerFollows.{Pending}
 use Rattle.datum_reader.proofs.read.read_short.Given as goal
 
 -- what is left ends as the text does, and no place is past its bytes

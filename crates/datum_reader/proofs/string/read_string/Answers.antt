@@ -1,7 +1,7 @@
 use Rattle.std.proofs.Common.{◌≡◌, ◌-◌, ◌+◌, ◌++◌, ◌∷◌, [], false, ℕ, List, length, take, drop, ap, sym, ◌∙◌, arith}
 use Rattle.datum_form.specs.Text.{quoted}
 use Rattle.datum_reader.specs.Strings.{ended, given}
-use Rattle.datum_reader.proofs.Strings.{plain_length, none_left, unended, unended_escape, closed, past_escape}
+use Rattle.datum_reader.proofs.StringsByRuns.{plain_length, none_left, unended, unended_escape, closed, past_escape}
 use Rattle.datum_reader.proofs.string.read_string.Goals as goal
 
 pub returns-in_default-clause-value : goal.returns-in_default-clause-value

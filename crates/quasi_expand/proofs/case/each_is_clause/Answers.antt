@@ -1,6 +1,6 @@
 use Rattle.std.proofs.Common.{◌≡◌, List, ℕ, [], arith}
 use Rattle.std.proofs.lemmas.Grind.{common_steps}
-use Rattle.datum_form.proofs.Printing.{none_left}
+use Rattle.datum_form.proofs.PrintedByParts.{none_left}
 use Rattle.quasi_expand.specs.Shapes.{are_clauses, is_case}
 use Rattle.quasi_expand.proofs.EachIsAClause.{early_else, last_clause, no_clause, no_clauses, one_clause}
 use Rattle.quasi_expand.proofs.case.each_is_clause.Goals as goal

@@ -1,4 +1,4 @@
-use Rattle.datum_form.proofs.Printing.{none_left}
+use Rattle.datum_form.proofs.PrintedByParts.{none_left}
 use Rattle.quasi_expand.specs.Shapes.{all_items, is_step}
 use Rattle.quasi_expand.proofs.EachIsABinding.{all_bindings, no_binding, one_binding}
 use Rattle.quasi_expand.proofs.do_loop.each_is_binding.Goals as goal

@@ -1,7 +1,7 @@
 use Rattle.std.proofs.Common.{subst}
 use Rattle.datum_reader.specs.declared.level.Level.{Level}
 use Rattle.datum_reader.specs.Levels.{HoldsLevel}
-use Rattle.datum_reader.proofs.Levels.{tail_within, listing_closes, tailed_closes, rowing_closes}
+use Rattle.datum_reader.proofs.LevelTakesOrCloses.{tail_within, listing_closes, tailed_closes, vector_closes}
 use Rattle.datum_reader.proofs.level.Level.closed.Goals as goal
 
 pub returns-in-Listing : goal.returns-in-Listing
@@ -16,11 +16,11 @@ returns-in-Tailed c = λ f h.
     tailed_closes c.args.nodes.now c.dotted.new.nodes c.in-Tailed.pos c.in-Tailed.items c.in-Tailed.tail
     c.in_ok-id-in-Tailed.id f (subst P c.in-Tailed.is h) c.in_ok-id-in-Tailed.ensures
 
-pub returns-in-Rowing : goal.returns-in-Rowing
-returns-in-Rowing c = λ f h.
+pub returns-in-InVector : goal.returns-in-InVector
+returns-in-InVector c = λ f h.
     let P : Level → Type 0 = λ l. HoldsLevel c.args.nodes.now l f in
-    rowing_closes c.args.nodes.now c.vector.new.nodes c.in-Rowing.pos c.in-Rowing.items c.in_ok-id-in-Rowing.id f
-    (subst P c.in-Rowing.is h) c.in_ok-id-in-Rowing.ensures
+    vector_closes c.args.nodes.now c.vector.new.nodes c.in-InVector.pos c.in-InVector.items c.in_ok-id-in-InVector.id f
+    (subst P c.in-InVector.is h) c.in_ok-id-in-InVector.ensures
 
 pub dotted-requires : goal.dotted-requires
 dotted-requires c =

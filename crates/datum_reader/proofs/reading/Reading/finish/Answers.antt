@@ -2,7 +2,7 @@ use Rattle.std.proofs.Common.{Option, ap, subst}
 use Rattle.std.specs.Option.{option_copied}
 use Rattle.datum_reader.specs.declared.level.Level.{Level}
 use Rattle.datum_reader.specs.Reading.{Innermost}
-use Rattle.datum_reader.proofs.Takes.{still_open}
+use Rattle.datum_reader.proofs.LevelsAfterToken.{still_open}
 use Rattle.datum_reader.proofs.reading.Reading.finish.Goals as goal
 
 pub returns-in-Some : goal.returns-in-Some

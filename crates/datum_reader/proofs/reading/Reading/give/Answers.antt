@@ -3,7 +3,7 @@ use Rattle.std.proofs.lemmas.Grind.{common_steps}
 use Rattle.datum_reader.specs.declared.level.Level.TheVariants as level
 use Rattle.datum_reader.specs.declared.reading.Reading.{Reading}
 use Rattle.datum_reader.specs.Machine.{give}
-use Rattle.datum_reader.proofs.States.{waits, takes, given_top, last_first, one_longer}
+use Rattle.datum_reader.proofs.LevelsAfterDatum.{waits, takes, given_top, last_first, one_longer}
 use Rattle.datum_reader.proofs.reading.Reading.give.Goals as goal
 
 pub loop-level-preserved : goal.loop-level-preserved

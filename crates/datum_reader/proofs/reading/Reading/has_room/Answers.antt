@@ -2,7 +2,7 @@ use Rattle.std.proofs.Common.{Option, Some, ap, subst, ◌∙◌}
 use Rattle.std.specs.Option.{option_copied}
 use Rattle.datum_reader.specs.declared.level.Level.{Level}
 use Rattle.datum_reader.specs.Reading.{Innermost}
-use Rattle.datum_reader.proofs.Takes.{no_room, room_else, room_outside}
+use Rattle.datum_reader.proofs.LevelsAfterToken.{no_room, room_else, room_outside}
 use Rattle.datum_reader.proofs.reading.Reading.has_room.Goals as goal
 
 pub returns-in_default : goal.returns-in_default

@@ -1,7 +1,7 @@
 use Rattle.std.proofs.Common.{◌≡◌, true, false, refl, ◌∙◌, arith}
 use Rattle.datum_reader.specs.declared.reading.Reading.{Reading}
 use Rattle.datum_reader.specs.Machine.{room, open_one}
-use Rattle.datum_reader.proofs.Takes.{refused, entered, too_deep, opens}
+use Rattle.datum_reader.proofs.LevelsAfterToken.{refused, entered, too_deep, opens}
 use Rattle.datum_reader.proofs.reading.Reading.open.Goals as goal
 
 pub returns-then-not-has_room : goal.returns-then-not-has_room

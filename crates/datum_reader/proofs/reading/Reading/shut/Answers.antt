@@ -2,7 +2,7 @@ use Rattle.std.proofs.Common.{Option, ℕ, refl, subst}
 use Rattle.datum_reader.specs.declared.reading.Reading.{Reading}
 use Rattle.datum_reader.specs.Levels.{HoldsLevel, Closes}
 use Rattle.datum_reader.specs.Machine.{Frame}
-use Rattle.datum_reader.proofs.States.{closes, last_level}
+use Rattle.datum_reader.proofs.LevelsAfterDatum.{closes, last_level}
 use Rattle.datum_reader.proofs.reading.Reading.shut.Goals as goal
 
 pub returns : goal.returns

@@ -3,7 +3,7 @@ use Rattle.std.proofs.Common.{◌≡◌, ◌≢◌, ℕ, suc, ◌+◌, Bool, tru
 use Rattle.std.specs.Prelude.{not, ◌||◌, ◌==◌}
 use Rattle.std.specs.List.{take_while}
 use Rattle.scheme_base.proofs.Lists.{same_head}
-use Rattle.datum_form.proofs.Pieces.{length_while-step, length_while-none}
+use Rattle.datum_form.proofs.TokensAsWritten.{length_while-step, length_while-none}
 use Rattle.datum_form.specs.Text.{Quoted, quoted, with_byte, with_bad_escape, after_backslash}
 use Rattle.datum_form.specs.Text.Quoted.{Closed, BadEscape, NeverClosed}
 use Rattle.datum_reader.specs.Strings.{is_escaped, is_plain, ended, given}

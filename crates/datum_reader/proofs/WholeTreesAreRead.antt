@@ -2,13 +2,14 @@
 use Rattle.std.proofs.Common.{◌≡◌, ℕ, zero, suc, true, List, [], ◌∷◌, ◌++◌, refl, sym, ap, ◌∙◌, append_assoc}
 use Rattle.std.proofs.lemmas.List.{append-nil}
 use Rattle.scheme_base.specs.declared.pos.Pos.{Pos}
-use Rattle.datum_form.specs.Syntax.{Token, Syntax, Rest, Elements, written, written_rest, written_elements, written_all, Within, WithinRest, WithinElements, WithinAll, IsText}
-use Rattle.datum_form.specs.Syntax.Token.{Close}
-use Rattle.datum_form.specs.Syntax.Syntax.{Leaf, Marked, Empty, Listed, Vector}
+use Rattle.datum_form.specs.declared.token.Token.{Token}
+use Rattle.datum_form.specs.Syntax.{Syntax, Rest, Elements, written, written_rest, written_elements, written_all, Within, WithinRest, WithinElements, WithinAll, IsText}
+use Rattle.datum_form.specs.declared.token.Token.TheVariants.{Close}
+use Rattle.datum_form.specs.Syntax.Syntax.{Leaf, Marked, Nil, Listed, Vector}
 use Rattle.datum_form.specs.Syntax.Rest.{End, More, Tail}
 use Rattle.datum_form.specs.Syntax.Elements.{Last, Further}
 use Rattle.datum_reader.specs.Machine.{Frame, Run, rest_of, elements_of, room, give, in_room, run, start}
-use Rattle.datum_reader.specs.Machine.Frame.{Opened, Listing, Dotted, Rowing, Waiting}
+use Rattle.datum_reader.specs.Machine.Frame.{Opened, Listing, Dotted, InVector, Waiting}
 use Rattle.datum_reader.specs.Machine.Run.{On}
 
 -- Trees in a row
@@ -36,8 +37,8 @@ mutual
   reads (Marked p m s) (suc n) fs tops ts h free =
       enter fs p (On n (Waiting p m ∷ fs) tops) (written s ts) free
       ∙ reads s n (Waiting p m ∷ fs) tops ts h refl
-  reads (Empty p q) zero fs tops ts h free = absurd h
-  reads (Empty p q) (suc n) fs tops ts h free = enter fs p (On n (Opened p ∷ fs) tops) (Close q ∷ ts) free
+  reads (Nil p q) zero fs tops ts h free = absurd h
+  reads (Nil p q) (suc n) fs tops ts h free = enter fs p (On n (Opened p ∷ fs) tops) (Close q ∷ ts) free
   reads (Listed p s r q) zero fs tops ts h free = absurd h
   reads (Listed p s r q) (suc n) fs tops ts h free =
       enter fs p (On n (Opened p ∷ fs) tops) (written s (written_rest r (Close q ∷ ts))) free
@@ -45,7 +46,7 @@ mutual
       ∙ reads_rest r n p s [] fs tops q ts h.1)
   reads (Vector p e q) zero fs tops ts h free = absurd h
   reads (Vector p e q) (suc n) fs tops ts h free =
-      enter fs p (On n (Rowing p [] ∷ fs) tops) (written_elements e (Close q ∷ ts)) free
+      enter fs p (On n (InVector p [] ∷ fs) tops) (written_elements e (Close q ∷ ts)) free
       ∙ reads_elements e n p [] fs tops q ts h
 
   reads_rest : (r : Rest) (n : ℕ) (p : Pos) (a : Syntax) (is : List Syntax) (fs : List Frame) (tops : List Syntax)
@@ -61,11 +62,11 @@ mutual
 
   reads_elements : (e : Elements) (n : ℕ) (p : Pos) (is : List Syntax) (fs : List Frame) (tops : List Syntax)
       (q : Pos) (ts : List Token) → WithinElements n e
-      → run (On n (Rowing p is ∷ fs) tops) (written_elements e (Close q ∷ ts))
+      → run (On n (InVector p is ∷ fs) tops) (written_elements e (Close q ∷ ts))
       ≡ run (give (suc n) fs tops (Vector p (elements_of is e) q)) ts
   reads_elements Last n p is fs tops q ts h = refl
   reads_elements (Further s e) n p is fs tops q ts h =
-      reads s n (Rowing p is ∷ fs) tops (written_elements e (Close q ∷ ts)) h.0 refl
+      reads s n (InVector p is ∷ fs) tops (written_elements e (Close q ∷ ts)) h.0 refl
       ∙ (reads_elements e n p (is ++ s ∷ []) fs tops q ts h.1
       ∙ ap (λ v. run (give (suc n) fs tops (Vector p v q)) ts) (elements_of-append is s e))
 
@@ -88,14 +89,14 @@ reads_items (s ∷ ss) n p a is fs tops ts h =
     ∙ (reads_items ss n p a (is ++ s ∷ []) fs tops ts h.1
     ∙ ap (λ v. run (On n (Listing p a v ∷ fs) tops) ts) (append_assoc is (s ∷ []) ss))
 
-pub reads_row : (ss : List Syntax) (n : ℕ) (p : Pos) (is : List Syntax) (fs : List Frame) (tops : List Syntax)
+pub reads_vector : (ss : List Syntax) (n : ℕ) (p : Pos) (is : List Syntax) (fs : List Frame) (tops : List Syntax)
     (ts : List Token) → WithinAll n ss
-    → run (On n (Rowing p is ∷ fs) tops) (written_all ss ts) ≡ run (On n (Rowing p (is ++ ss) ∷ fs) tops) ts
-reads_row [] n p is fs tops ts h = ap (λ v. run (On n (Rowing p v ∷ fs) tops) ts) (sym (append-nil is))
-reads_row (s ∷ ss) n p is fs tops ts h =
-    reads s n (Rowing p is ∷ fs) tops (written_all ss ts) h.0 refl
-    ∙ (reads_row ss n p (is ++ s ∷ []) fs tops ts h.1
-    ∙ ap (λ v. run (On n (Rowing p v ∷ fs) tops) ts) (append_assoc is (s ∷ []) ss))
+    → run (On n (InVector p is ∷ fs) tops) (written_all ss ts) ≡ run (On n (InVector p (is ++ ss) ∷ fs) tops) ts
+reads_vector [] n p is fs tops ts h = ap (λ v. run (On n (InVector p v ∷ fs) tops) ts) (sym (append-nil is))
+reads_vector (s ∷ ss) n p is fs tops ts h =
+    reads s n (InVector p is ∷ fs) tops (written_all ss ts) h.0 refl
+    ∙ (reads_vector ss n p (is ++ s ∷ []) fs tops ts h.1
+    ∙ ap (λ v. run (On n (InVector p v ∷ fs) tops) ts) (append_assoc is (s ∷ []) ss))
 
 -- a text is read as its trees
 pub text_run : (n : ℕ) (ts : List Token) (ss : List Syntax) → IsText n ts ss → run (start n) ts ≡ On n [] ss

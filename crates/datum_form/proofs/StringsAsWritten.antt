@@ -10,13 +10,13 @@ use Rattle.datum_form.specs.Grammar.{IsCharacter, IsString, IsInside}
 use Rattle.datum_form.specs.Grammar.IsCharacter.{itself, space, newline}
 use Rattle.datum_form.specs.Grammar.IsInside.{at_start, plain_byte, escaped_byte}
 use Rattle.datum_form.specs.Grammar.IsString.{empty, plain, escaped_quote, escaped_backslash}
-use Rattle.datum_form.specs.Syntax.{Token}
-use Rattle.datum_form.specs.Syntax.Atom.{Character}
-use Rattle.datum_form.specs.Syntax.Token.{Single}
+use Rattle.datum_form.specs.declared.token.Token.{Token}
+use Rattle.datum_form.specs.declared.token.Atom.TheVariants.{Character}
+use Rattle.datum_form.specs.declared.token.Token.TheVariants.{Atomic}
 use Rattle.datum_form.specs.Text.{Quoted, quoted, with_byte, with_bad_escape, after_backslash}
 use Rattle.datum_form.specs.Text.Quoted.{Closed, BadEscape, NeverClosed}
 use Rattle.datum_form.specs.Words.{named_character, character_word}
-use Rattle.datum_form.specs.Words.Word.{IsToken, OutOfRange, NoWord}
+use Rattle.datum_form.specs.declared.piece.Word.TheVariants.{IsToken, OutOfRange, NoWord}
 
 -- Characters
 
@@ -25,18 +25,18 @@ named : (p : Pos) (word name : List ℕ) (k : ℕ) → str_to_ascii_lowercase wo
 named p word name k e count no_three =
     let same : length word ≡ k = sym (length-map word to_ascii_lowercase) ∙ (ap length e ∙ count) in
     let differs : (length word == 3) ≡ false = ap (λ n. n == 3) same ∙ no_three in
-    ap (λ b. cond b (IsToken (Single p (Character (slice_index word 2)))) (named_character p (str_to_ascii_lowercase word))) differs
+    ap (λ b. cond b (IsToken (Atomic p (Character (slice_index word 2)))) (named_character p (str_to_ascii_lowercase word))) differs
     ∙ ap (named_character p) e
 
 pub character_read : (p : Pos) (word : List ℕ) (c : ℕ) → IsCharacter word c
-    → character_word p word ≡ IsToken (Single p (Character c))
+    → character_word p word ≡ IsToken (Atomic p (Character c))
 character_read p word c (itself b) = refl
 character_read p word c (space w e) = named p word (codes "#\\space") 7 e refl refl
 character_read p word c (newline w e) = named p word (codes "#\\newline") 9 e refl refl
 
 pub record IsCharacterToken (p : Pos) (word : List ℕ) (t : Token) : Type 0 where
   pub byte : ℕ
-  pub is : t ≡ Single p (Character byte)
+  pub is : t ≡ Atomic p (Character byte)
   pub has : IsCharacter word byte
 
 same_token : (t u : Token) → IsToken u ≡ IsToken t → t ≡ u
@@ -56,12 +56,12 @@ name_written p word t h =
   where
     at : (s n : Bool) → bytes_eq (str_to_ascii_lowercase word) (codes "#\\space") ≡ s
         → bytes_eq (str_to_ascii_lowercase word) (codes "#\\newline") ≡ n
-        → cond s (IsToken (Single p (Character 32))) (cond n (IsToken (Single p (Character 10))) NoWord) ≡ IsToken t
+        → cond s (IsToken (Atomic p (Character 32))) (cond n (IsToken (Atomic p (Character 10))) NoWord) ≡ IsToken t
         → IsCharacterToken p word t
     at true n hs hn e =
-        record { byte = 32; is = same_token t (Single p (Character 32)) e; has = space word (same_bytes (str_to_ascii_lowercase word) (codes "#\\space") hs) }
+        record { byte = 32; is = same_token t (Atomic p (Character 32)) e; has = space word (same_bytes (str_to_ascii_lowercase word) (codes "#\\space") hs) }
     at false true hs hn e =
-        record { byte = 10; is = same_token t (Single p (Character 10)) e; has = newline word (same_bytes (str_to_ascii_lowercase word) (codes "#\\newline") hn) }
+        record { byte = 10; is = same_token t (Atomic p (Character 10)) e; has = newline word (same_bytes (str_to_ascii_lowercase word) (codes "#\\newline") hn) }
     at false false hs hn e = absurd (no_token t e)
 
 longer : (a b c d : ℕ) (rest : List ℕ) → (length (a ∷ b ∷ c ∷ d ∷ rest) == 3) ≡ false
@@ -69,11 +69,11 @@ longer a b c d rest = grind arith
 
 pub character_written : (p : Pos) (b : ℕ) (more : List ℕ) (t : Token)
     → character_word p (35 ∷ 92 ∷ b ∷ more) ≡ IsToken t → IsCharacterToken p (35 ∷ 92 ∷ b ∷ more) t
-character_written p b [] t h = record { byte = b; is = same_token t (Single p (Character b)) h; has = itself b }
+character_written p b [] t h = record { byte = b; is = same_token t (Atomic p (Character b)) h; has = itself b }
 character_written p b (d ∷ rest) t h =
     let word : List ℕ = 35 ∷ 92 ∷ b ∷ d ∷ rest in
     name_written p word t
-    (sym (ap (λ x. cond x (IsToken (Single p (Character (slice_index word 2)))) (named_character p (str_to_ascii_lowercase word))) (longer 35 92 b d rest))
+    (sym (ap (λ x. cond x (IsToken (Atomic p (Character (slice_index word 2)))) (named_character p (str_to_ascii_lowercase word))) (longer 35 92 b d rest))
     ∙ h)
 
 -- Strings
@@ -87,8 +87,8 @@ character_in_range p text e =
     at (length text == 3) (bytes_eq small (codes "#\\space")) (bytes_eq small (codes "#\\newline")) e
   where
     at : (three space_name newline_name : Bool)
-        → cond three (IsToken (Single p (Character (slice_index text 2))))
-        (cond space_name (IsToken (Single p (Character 32))) (cond newline_name (IsToken (Single p (Character 10))) NoWord)) ≡ OutOfRange
+        → cond three (IsToken (Atomic p (Character (slice_index text 2))))
+        (cond space_name (IsToken (Atomic p (Character 32))) (cond newline_name (IsToken (Atomic p (Character 10))) NoWord)) ≡ OutOfRange
         → ⊥
     at true s n h = cc
     at false true n h = cc

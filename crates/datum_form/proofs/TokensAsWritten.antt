@@ -9,18 +9,20 @@ use Rattle.std.specs.Str.{str_to_ascii_lowercase}
 use Rattle.scheme_base.specs.declared.pos.Pos.{Pos}
 use Rattle.datum_form.specs.Grammar.{Delimited, Undelimited, NotNext, IsWord, IsCharacter, IsString, IsToken, NumberOut, NeverEnds}
 use Rattle.datum_form.specs.Grammar.IsToken.{opens, opens_vector, closes, quote, quasiquote, splice, unquote, string, character, word}
-use Rattle.datum_form.specs.Syntax.{Token}
-use Rattle.datum_form.specs.Syntax.Atom.{Text, Character}
-use Rattle.datum_form.specs.Syntax.Mark.{Unquote}
-use Rattle.datum_form.specs.Syntax.Token.{Marking, Single}
-use Rattle.datum_form.specs.Text.{Piece, Quoted, quoted, is_delimiter, run_length, word_piece, string_piece, piece}
-use Rattle.datum_form.specs.Text.Piece.{Found, BadNumber, OpenText}
+use Rattle.datum_form.specs.declared.token.Token.{Token}
+use Rattle.datum_form.specs.declared.token.Atom.TheVariants.{String, Character}
+use Rattle.datum_form.specs.declared.token.Mark.TheVariants.{Unquote}
+use Rattle.datum_form.specs.declared.token.Token.TheVariants.{Marking, Atomic}
+use Rattle.datum_form.specs.declared.piece.Piece.{Piece}
+use Rattle.datum_form.specs.Text.{Quoted, quoted, is_delimiter, run_length, word_piece, string_piece, piece}
+use Rattle.datum_form.specs.declared.piece.Piece.TheVariants.{Found, BadNumber, OpenString}
 use Rattle.datum_form.specs.Text.Quoted.{Closed, BadEscape, NeverClosed}
-use Rattle.datum_form.specs.Words.{Word, begins_with, small_word, character_word}
-use Rattle.datum_form.specs.Words.Word.{IsToken as Is, OutOfRange, NoWord}
-use Rattle.datum_form.proofs.Numerals.{same_byte}
-use Rattle.datum_form.proofs.Spelling.{word_read, out_read}
-use Rattle.datum_form.proofs.Strings.{character_read, string_read, ended}
+use Rattle.datum_form.specs.declared.piece.Word.{Word}
+use Rattle.datum_form.specs.Words.{begins_with, small_word, character_word}
+use Rattle.datum_form.specs.declared.piece.Word.TheVariants.{IsToken as Is, OutOfRange, NoWord}
+use Rattle.datum_form.proofs.NumbersAsWritten.{same_byte}
+use Rattle.datum_form.proofs.WordsAsWritten.{word_read, out_read}
+use Rattle.datum_form.proofs.StringsAsWritten.{character_read, string_read, ended}
 
 -- Runs
 
@@ -170,7 +172,7 @@ found_word p bytes after t u d h =
 
 found_character : (p : Pos) (b c : ℕ) (more after : List ℕ) → Undelimited more → Delimited after
     → IsCharacter (35 ∷ 92 ∷ b ∷ more) c
-    → piece p ((35 ∷ 92 ∷ b ∷ more) ++ after) ≡ Found (Single p (Character c)) (length (35 ∷ 92 ∷ b ∷ more))
+    → piece p ((35 ∷ 92 ∷ b ∷ more) ++ after) ≡ Found (Atomic p (Character c)) (length (35 ∷ 92 ∷ b ∷ more))
 found_character p b c more after u d h =
     let text : List ℕ = (35 ∷ 92 ∷ b ∷ more) ++ after in
     let start : List ℕ = 35 ∷ 92 ∷ b ∷ more in
@@ -181,11 +183,11 @@ found_character p b c more after u d h =
     ∙ ap (λ w. word_piece w (length start)) (character_read p start c h)))
 
 found_string : (p : Pos) (text bytes after : List ℕ) → IsString text bytes
-    → piece p ((34 ∷ (text ++ 34 ∷ [])) ++ after) ≡ Found (Single p (Text bytes)) (length (34 ∷ (text ++ 34 ∷ [])))
+    → piece p ((34 ∷ (text ++ 34 ∷ [])) ++ after) ≡ Found (Atomic p (String bytes)) (length (34 ∷ (text ++ 34 ∷ [])))
 found_string p text bytes after h =
     let count : (length text + 1) + 1 ≡ length (34 ∷ (text ++ 34 ∷ [])) = omega (arith, length-append text (34 ∷ [])) in
     ap (λ l. string_piece p (quoted false l)) (append_assoc text (34 ∷ []) after)
-    ∙ (ap (string_piece p) (string_read text bytes after h) ∙ ap (Found (Single p (Text bytes))) count)
+    ∙ (ap (string_piece p) (string_read text bytes after h) ∙ ap (Found (Atomic p (String bytes))) count)
 
 found_comma : (p : Pos) (after : List ℕ) → NotNext 64 after → piece p (44 ∷ after) ≡ Found (Marking p Unquote) 1
 found_comma p [] h = refl
@@ -223,7 +225,7 @@ closed_open bytes n e = cc
 escape_open : BadEscape ≡ NeverClosed → ⊥
 escape_open e = cc
 
-pub open_found : (p : Pos) (text : List ℕ) → NeverEnds text → piece p text ≡ OpenText
+pub open_found : (p : Pos) (text : List ℕ) → NeverEnds text → piece p text ≡ OpenString
 open_found p text n = ap (piece p) n.begins ∙ ap (string_piece p) (is (quoted false n.inside) refl)
   where
     is_ended : (quoted false n.inside ≡ NeverClosed → ⊥) → ⊥

@@ -1,19 +1,20 @@
 -- Where a reading goes on, and what it ends with.
 use Rattle.std.proofs.Common.{◌≡◌, ℕ, zero, suc, List, [], ◌∷◌, ◌++◌, Option, Some, None, refl, sym, ap, subst, ◌∙◌}
 use Rattle.scheme_base.specs.declared.pos.Pos.{Pos}
-use Rattle.datum_form.specs.Syntax.{Token, Syntax, Rest, Elements, written, written_rest, written_elements, written_all, Within, WithinRest, WithinElements, WithinAll, Begins}
-use Rattle.datum_form.specs.Syntax.Token.{Open, OpenVector, Close, Dot, Marking}
-use Rattle.datum_form.specs.Syntax.Syntax.{Leaf, Marked, Empty, Listed, Vector}
+use Rattle.datum_form.specs.declared.token.Token.{Token}
+use Rattle.datum_form.specs.Syntax.{Syntax, Rest, Elements, written, written_rest, written_elements, written_all, Within, WithinRest, WithinElements, WithinAll, Begins}
+use Rattle.datum_form.specs.declared.token.Token.TheVariants.{Open, OpenVector, Close, Dot, Marking}
+use Rattle.datum_form.specs.Syntax.Syntax.{Leaf, Marked, Nil, Listed, Vector}
 use Rattle.datum_form.specs.Syntax.Rest.{End, More, Tail}
 use Rattle.datum_form.specs.Syntax.Elements.{Last, Further}
 use Rattle.datum_form.specs.Faults.{Fault}
 use Rattle.datum_form.specs.Faults.Fault.{IsStray, IsDeep, IsUnclosed}
 use Rattle.datum_reader.specs.Machine.{Frame, Run, frame_place, step, run, start}
-use Rattle.datum_reader.specs.Machine.Frame.{Opened, Listing, Dotted, Tailed, Rowing, Waiting}
+use Rattle.datum_reader.specs.Machine.Frame.{Opened, Listing, Dotted, Tailed, InVector, Waiting}
 use Rattle.datum_reader.specs.Machine.Run.{On, Stray, Deep}
-use Rattle.datum_reader.proofs.WholeTrees.{text_run}
-use Rattle.datum_reader.proofs.Good.{frame_written, frames_written, FrameWithin, Fits, GoodRun, start_good, good_begins}
-use Rattle.datum_reader.proofs.Lifts.{IsOn, TooDeep, NotDeep, on_not_deep, on_before, lift, lift_run, up, up_swap, raise, raise_on, raise_levels, raise_stray, raise_run, deep_step}
+use Rattle.datum_reader.proofs.WholeTreesAreRead.{text_run}
+use Rattle.datum_reader.proofs.ReadingBeginsAText.{frame_written, frames_written, FrameWithin, Fits, GoodRun, start_good, good_begins}
+use Rattle.datum_reader.proofs.DeeperReadsTheSame.{IsOn, TooDeep, NotDeep, on_not_deep, on_before, lift, lift_run, up, up_swap, raise, raise_on, raise_levels, raise_stray, raise_run, deep_step}
 
 -- Readings of tokens and more tokens
 
@@ -146,7 +147,7 @@ mutual
   within_more (Leaf p a) n h = tt
   within_more (Marked p m s) zero h = absurd h
   within_more (Marked p m s) (suc n) h = within_more s n h
-  within_more (Empty p q) n h = tt
+  within_more (Nil p q) n h = tt
   within_more (Listed p s r q) zero h = absurd h
   within_more (Listed p s r q) (suc n) h = (within_more s n h.0, within_more_rest r n h.1)
   within_more (Vector p e q) zero h = absurd h
@@ -178,7 +179,7 @@ frame_more (Opened p) n h = tt
 frame_more (Listing p a is) n h = (within_more a n h.0, within_more_all is n h.1)
 frame_more (Dotted p a is d) n h = (within_more a n h.0, within_more_all is n h.1)
 frame_more (Tailed p a is d t) n h = (within_more a n h.0, within_more_all is n h.1, within_more t n h.2)
-frame_more (Rowing p is) n h = within_more_all is n h
+frame_more (InVector p is) n h = within_more_all is n h
 frame_more (Waiting p k) n h = tt
 
 pub frame_fits : (fs : List Frame) (n m : ℕ) (f : Frame) → FrameWithin m f → Fits n m fs → FrameWithin n f
@@ -193,7 +194,7 @@ mutual
   written-append : (s : Syntax) (us vs : List Token) → written s (us ++ vs) ≡ written s us ++ vs
   written-append (Leaf p a) us vs = refl
   written-append (Marked p m s) us vs = ap (λ ts. Marking p m ∷ ts) (written-append s us vs)
-  written-append (Empty p q) us vs = refl
+  written-append (Nil p q) us vs = refl
   written-append (Listed p s r q) us vs =
       ap (λ ts. Open p ∷ ts)
       (ap (written s) (written_rest-append r (Close q ∷ us) vs)
@@ -228,7 +229,7 @@ frame-append (Tailed p a is d t) us vs =
     (ap (λ ts. written a (written_all is (Dot d ∷ ts))) (written-append t us vs)
     ∙ (ap (written a) (all-append is (Dot d ∷ written t us) vs)
     ∙ written-append a (written_all is (Dot d ∷ written t us)) vs))
-frame-append (Rowing p is) us vs = ap (λ ts. OpenVector p ∷ ts) (all-append is us vs)
+frame-append (InVector p is) us vs = ap (λ ts. OpenVector p ∷ ts) (all-append is us vs)
 frame-append (Waiting p m) us vs = refl
 
 frames-append : (fs : List Frame) (us vs : List Token) → frames_written fs (us ++ vs) ≡ frames_written fs us ++ vs

@@ -7,7 +7,7 @@ use Rattle.std.specs.Str.{str_to_ascii_lowercase}
 use Rattle.scheme_base.specs.declared.pos.Pos.{Pos}
 use Rattle.scheme_base.specs.AtomText.{character_text, escaped_text}
 use Rattle.scheme_base.specs.Integers.{in_range}
-use Rattle.datum_form.proofs.Strings.{same_byte, differs}
+use Rattle.datum_form.proofs.StringsAsWritten.{same_byte, differs}
 use Rattle.datum_form.specs.Grammar.{Delimited, Undelimited, IsNumber, IsWord, IsString, IsToken}
 use Rattle.datum_form.specs.Grammar.IsRadix.{decimal as ten}
 use Rattle.datum_form.specs.Grammar.IsExactness.{unmarked}
@@ -18,9 +18,10 @@ use Rattle.datum_form.specs.Grammar.IsCharacter.{itself, space, newline}
 use Rattle.datum_form.specs.Grammar.IsString.{empty, plain, escaped_quote, escaped_backslash}
 use Rattle.datum_form.specs.Grammar.IsToken.{opens, opens_vector, closes, quote, quasiquote, splice, unquote, string, character, word}
 use Rattle.datum_form.specs.Print.{atom_text}
-use Rattle.datum_form.specs.Syntax.{Token, Atom}
-use Rattle.datum_form.specs.Syntax.Atom.{Integer, Boolean, Character, Text, Name}
-use Rattle.datum_form.specs.Syntax.Token.{Single}
+use Rattle.datum_form.specs.declared.token.Token.{Token}
+use Rattle.datum_form.specs.declared.token.Atom.{Atom}
+use Rattle.datum_form.specs.declared.token.Atom.TheVariants.{Integer, Boolean, Character, String, Symbol}
+use Rattle.datum_form.specs.declared.token.Token.TheVariants.{Atomic}
 use Rattle.datum_form.specs.Text.{is_delimiter}
 use Rattle.datum_form.specs.Words.{digit, digits, digits_after, is_name}
 
@@ -29,8 +30,8 @@ abbrev pub ValidAtom : Atom → Type 0
 ValidAtom (Integer z) = in_range z ≡ true
 ValidAtom (Boolean b) = Unit {0}
 ValidAtom (Character c) = Unit {0}
-ValidAtom (Text bytes) = Unit {0}
-ValidAtom (Name bytes) =
+ValidAtom (String bytes) = Unit {0}
+ValidAtom (Symbol bytes) =
     (is_name bytes ≡ true) × Undelimited bytes × (str_to_ascii_lowercase bytes ≡ bytes)
 
 -- Decimal digits
@@ -203,34 +204,34 @@ negative_number n d =
     }
 
 same_word : (p : Pos) (w small : List ℕ) (z : ℤ) → str_to_ascii_lowercase w ≡ small → IsNumber small z
-    → in_range z ≡ true → IsWord p (str_to_ascii_lowercase w) (Single p (Integer z))
+    → in_range z ≡ true → IsWord p (str_to_ascii_lowercase w) (Atomic p (Integer z))
 same_word p w small z e h r =
-    let P : List ℕ → Type 0 = λ l. IsWord p l (Single p (Integer z)) in subst P (sym e) (number p small z h r)
+    let P : List ℕ → Type 0 = λ l. IsWord p l (Atomic p (Integer z)) in subst P (sym e) (number p small z h r)
 
 integer_token : (p : Pos) (z : ℤ) (after : List ℕ) → in_range z ≡ true → Delimited after
-    → IsToken p (atom_text (Integer z)) after (Single p (Integer z))
+    → IsToken p (atom_text (Integer z)) after (Atomic p (Integer z))
 integer_token p (pos n) after h d =
     let dec = decimal_of n (in_range_of n h) in
-    word p after (decimal n) (Single p (Integer (pos n))) dec.undelimited d
+    word p after (decimal n) (Atomic p (Integer (pos n))) dec.undelimited d
     (same_word p (decimal n) (decimal n) (pos n) dec.lower (positive n dec) h)
 integer_token p (negsuc n) after h d =
     let dec = decimal_of (suc n) (in_range_below n h) in
-    word p after (45 ∷ decimal (suc n)) (Single p (Integer (negsuc n))) (refl, dec.undelimited) d
+    word p after (45 ∷ decimal (suc n)) (Atomic p (Integer (negsuc n))) (refl, dec.undelimited) d
     (same_word p (45 ∷ decimal (suc n)) (45 ∷ decimal (suc n)) (negsuc n) (ap (λ l. 45 ∷ l) dec.lower)
     (negative_number n dec) h)
 
 character_token : (p : Pos) (c : ℕ) (after : List ℕ) → Delimited after
-    → IsToken p (character_text c) after (Single p (Character c))
+    → IsToken p (character_text c) after (Atomic p (Character c))
 character_token p c after d = at (c == 32) (c == 10) refl refl
   where
     at : (s n : Bool) → (c == 32) ≡ s → (c == 10) ≡ n
-        → IsToken p (cond s (codes "#\\space") (cond n (codes "#\\newline") (codes "#\\" ++ c ∷ []))) after (Single p (Character c))
+        → IsToken p (cond s (codes "#\\space") (cond n (codes "#\\newline") (codes "#\\" ++ c ∷ []))) after (Atomic p (Character c))
     at true n hs hn =
-        let P : ℕ → Type 0 = λ k. IsToken p (codes "#\\space") after (Single p (Character k)) in
+        let P : ℕ → Type 0 = λ k. IsToken p (codes "#\\space") after (Atomic p (Character k)) in
         subst P (sym (same_byte c 32 hs))
         (character p after 115 (codes "pace") 32 (refl, (refl, (refl, (refl, tt)))) d (space (codes "#\\space") refl))
     at false true hs hn =
-        let P : ℕ → Type 0 = λ k. IsToken p (codes "#\\newline") after (Single p (Character k)) in
+        let P : ℕ → Type 0 = λ k. IsToken p (codes "#\\newline") after (Atomic p (Character k)) in
         subst P (sym (same_byte c 10 hn))
         (character p after 110 (codes "ewline") 10 (refl, (refl, (refl, (refl, (refl, (refl, tt)))))) d (newline (codes "#\\newline") refl))
     at false false hs hn = character p after c [] c tt d (itself c)
@@ -250,20 +251,20 @@ escaped_is (b ∷ bytes) = at (b == 34) (b == 92) refl refl (escaped_is bytes)
     at false false hq hs more =
         plain b (escaped_text bytes) bytes (differs b 34 hq) (differs b 92 hs) more
 
-name_token : (p : Pos) (bytes after : List ℕ) → ValidAtom (Name bytes) → Delimited after
-    → IsToken p bytes after (Single p (Name bytes))
+name_token : (p : Pos) (bytes after : List ℕ) → ValidAtom (Symbol bytes) → Delimited after
+    → IsToken p bytes after (Atomic p (Symbol bytes))
 name_token p bytes after h d =
-    let P : List ℕ → Type 0 = λ l. IsWord p l (Single p (Name bytes)) in
-    word p after bytes (Single p (Name bytes)) h.1 d (subst P (sym h.2) (name p bytes h.0))
+    let P : List ℕ → Type 0 = λ l. IsWord p l (Atomic p (Symbol bytes)) in
+    word p after bytes (Atomic p (Symbol bytes)) h.1 d (subst P (sym h.2) (name p bytes h.0))
 
 pub atom_token : (p : Pos) (a : Atom) (after : List ℕ) → ValidAtom a → Delimited after
-    → IsToken p (atom_text a) after (Single p a)
+    → IsToken p (atom_text a) after (Atomic p a)
 atom_token p (Integer z) after h d = integer_token p z after h d
-atom_token p (Boolean true) after h d = word p after (codes "#t") (Single p (Boolean true)) (refl, (refl, tt)) d (true_word p)
-atom_token p (Boolean false) after h d = word p after (codes "#f") (Single p (Boolean false)) (refl, (refl, tt)) d (false_word p)
+atom_token p (Boolean true) after h d = word p after (codes "#t") (Atomic p (Boolean true)) (refl, (refl, tt)) d (true_word p)
+atom_token p (Boolean false) after h d = word p after (codes "#f") (Atomic p (Boolean false)) (refl, (refl, tt)) d (false_word p)
 atom_token p (Character c) after h d = character_token p c after d
-atom_token p (Text bytes) after h d = string p after (escaped_text bytes) bytes (escaped_is bytes)
-atom_token p (Name bytes) after h d = name_token p bytes after h d
+atom_token p (String bytes) after h d = string p after (escaped_text bytes) bytes (escaped_is bytes)
+atom_token p (Symbol bytes) after h d = name_token p bytes after h d
 
 -- Atoms of a text
 
@@ -305,7 +306,7 @@ lower_undelimited (b ∷ bytes) h = (one b h.0, lower_undelimited bytes h.1)
 
 -- what stands by itself is valid
 abbrev pub ValidToken : Token → Type 0
-ValidToken (Single p a) = ValidAtom a
+ValidToken (Atomic p a) = ValidAtom a
 ValidToken t = Unit {0}
 
 word_valid : (p : Pos) (small : List ℕ) (t : Token) → Undelimited small → str_to_ascii_lowercase small ≡ small

@@ -3,10 +3,10 @@ use Rattle.std.proofs.Common.{◌≡◌, ℕ, Bool, true, false, List, Option, S
 use Rattle.std.specs.Prelude.{ℤ}
 use Rattle.scheme_base.specs.declared.pos.Pos.{Pos}
 use Rattle.scheme_base.specs.Integers.{in_range}
-use Rattle.datum_form.specs.Syntax.Atom.{Integer}
-use Rattle.datum_form.specs.Syntax.Token.{Single}
+use Rattle.datum_form.specs.declared.token.Atom.TheVariants.{Integer}
+use Rattle.datum_form.specs.declared.token.Token.TheVariants.{Atomic}
 use Rattle.datum_form.specs.Words.{name_word, number_or_name}
-use Rattle.datum_form.specs.Words.Word.{IsToken, OutOfRange}
+use Rattle.datum_form.specs.declared.piece.Word.TheVariants.{IsToken, OutOfRange}
 use Rattle.datum_reader.specs.declared.number.Numeral.TheVariants.{NoNumber, OutOfRange as Outside, Value}
 use Rattle.datum_reader.specs.Numbers.{ranged, numeral_of}
 
@@ -24,11 +24,11 @@ ranged_word p true z x e = let same : z ≡ x = cc in (refl, same)
 ranged_word p false z x e = absurd (cc)
 
 pub one_number : (p : Pos) (text : List ℕ) (o : Option ℤ) (x : ℤ) → numeral_of o ≡ Value x
-    → number_or_name p text o ≡ IsToken (Single p (Integer x))
+    → number_or_name p text o ≡ IsToken (Atomic p (Integer x))
 one_number p text None x e = absurd (cc)
 one_number p text (Some z) x e =
     let r : (in_range z ≡ true) × (z ≡ x) = ranged_word p (in_range z) z x e in
-    rw r.0 (ap (λ k. IsToken (Single p (Integer k))) r.1)
+    rw r.0 (ap (λ k. IsToken (Atomic p (Integer k))) r.1)
 
 ranged_outside : (b : Bool) (z : ℤ) → ranged b z ≡ Outside → b ≡ false
 ranged_outside true z e = absurd (cc)

@@ -3,8 +3,7 @@ use Rattle.std.proofs.Common.{◌≡◌, ℕ, ◌<◌, length, List as Seq, [], 
 use Rattle.std.proofs.lemmas.Option.{slice_get_within}
 use Rattle.scheme_base.specs.declared.pos.Pos.{Pos}
 use Rattle.datum_form.specs.declared.datums.Node.{Node}
-use Rattle.datum_form.specs.Data.{Datum, Items, datum_of, data_of}
-use Rattle.datum_form.specs.Data.Datum.{Single, Chain, Dotted, Row}
+use Rattle.datum_form.specs.Data.{Datum, Datum as datum, Items, datum_of, data_of}
 use Rattle.datum_form.specs.Stands.{Stands, StandAll}
 use Rattle.datum_form.specs.Syntax.{Syntax}
 use Rattle.datum_form.specs.Syntax.Syntax.{Listed, Vector}
@@ -13,9 +12,9 @@ use Rattle.datum_form.specs.Syntax.Elements.{Last}
 use Rattle.datum_reader.specs.declared.level.Level.TheVariants as level
 use Rattle.datum_reader.specs.Levels.{HoldsLevel, with_tree, Closes}
 use Rattle.datum_reader.specs.Machine.{Frame, rest_of, elements_of}
-use Rattle.datum_reader.specs.Machine.Frame.{Listing, Tailed, Rowing}
+use Rattle.datum_reader.specs.Machine.Frame.{Listing, Tailed, InVector}
 use Rattle.datum_reader.specs.Nodes.{Builds, tailed}
-use Rattle.datum_reader.proofs.Builds.{list_data, dotted_data, vector_data}
+use Rattle.datum_reader.proofs.AddedNodeStands.{list_data, dotted_data, vector_data}
 
 -- One datum more
 
@@ -33,21 +32,21 @@ listing_takes nodes p ids more id (Listing q a is) s h e k =
     (h.0, subst P (sym e) (one_more nodes ids id (a ∷ is) s h.1 k))
 listing_takes nodes p ids more id f s h e k = absurd h
 
-pub rowing_takes : (nodes : Seq Node) (p : Pos) (ids more : Seq ℕ) (id : ℕ) (f : Frame) (s : Syntax)
-    → HoldsLevel nodes (level.Rowing p ids) f → more ≡ ids ++ id ∷ [] → Stands nodes id (datum_of s)
-    → HoldsLevel nodes (level.Rowing p more) (with_tree f s)
-rowing_takes nodes p ids more id (Rowing q is) s h e k =
+pub vector_takes : (nodes : Seq Node) (p : Pos) (ids more : Seq ℕ) (id : ℕ) (f : Frame) (s : Syntax)
+    → HoldsLevel nodes (level.InVector p ids) f → more ≡ ids ++ id ∷ [] → Stands nodes id (datum_of s)
+    → HoldsLevel nodes (level.InVector p more) (with_tree f s)
+vector_takes nodes p ids more id (InVector q is) s h e k =
     let P : Seq ℕ → Type 0 = λ xs. StandAll nodes xs (data_of (is ++ s ∷ [])) in
     (h.0, subst P (sym e) (one_more nodes ids id is s h.1 k))
-rowing_takes nodes p ids more id f s h e k = absurd h
+vector_takes nodes p ids more id f s h e k = absurd h
 
 -- A tail is a node
 
 stands_within : (nodes : Seq Node) (id : ℕ) (d : Datum) → Stands nodes id d → id < length nodes
-stands_within nodes id (Single p a) h = slice_get_within nodes id _ h
-stands_within nodes id (Chain p is) h = slice_get_within nodes id _ h.1
-stands_within nodes id (Dotted p is d) h = slice_get_within nodes id _ h.2
-stands_within nodes id (Row p is) h = slice_get_within nodes id _ h.1
+stands_within nodes id (datum.Atomic p a) h = slice_get_within nodes id _ h
+stands_within nodes id (datum.List p is) h = slice_get_within nodes id _ h.1
+stands_within nodes id (datum.Dotted p is d) h = slice_get_within nodes id _ h.2
+stands_within nodes id (datum.Vector p is) h = slice_get_within nodes id _ h.1
 
 pub tail_within : (nodes : Seq Node) (p : Pos) (ids : Seq ℕ) (tail : ℕ) (f : Frame)
     → HoldsLevel nodes (level.Tailed p ids tail) f → tail < length nodes
@@ -61,10 +60,10 @@ moved before after id c d e b = let P : Datum → Type 0 = λ x. Builds before a
 
 pub listing_closes : (before after : Seq Node) (p : Pos) (ids : Seq ℕ) (id : ℕ) (f : Frame)
     → HoldsLevel before (level.Listing p ids) f
-    → ((is : Items) → StandAll before ids is → Builds before after id (Chain p is)) → Closes before after (Some id) f
+    → ((is : Items) → StandAll before ids is → Builds before after id (datum.List p is)) → Closes before after (Some id) f
 listing_closes before after p ids id (Listing q a is) h b =
-    λ r. moved before after id (Chain p (data_of (a ∷ is))) (datum_of (Listed q a (rest_of is End) r))
-    (ap (λ x. Chain x (data_of (a ∷ is))) h.0 ∙ sym (list_data q r a is))
+    λ r. moved before after id (datum.List p (data_of (a ∷ is))) (datum_of (Listed q a (rest_of is End) r))
+    (ap (λ x. datum.List x (data_of (a ∷ is))) h.0 ∙ sym (list_data q r a is))
     (b (data_of (a ∷ is)) h.1)
 listing_closes before after p ids id f h b = absurd h
 
@@ -78,10 +77,10 @@ tailed_closes before after p ids tail id (Tailed q a is d t) h b =
     (b (data_of (a ∷ is)) (datum_of t) h.1 h.2)
 tailed_closes before after p ids tail id f h b = absurd h
 
-pub rowing_closes : (before after : Seq Node) (p : Pos) (ids : Seq ℕ) (id : ℕ) (f : Frame)
-    → HoldsLevel before (level.Rowing p ids) f
-    → ((is : Items) → StandAll before ids is → Builds before after id (Row p is)) → Closes before after (Some id) f
-rowing_closes before after p ids id (Rowing q is) h b =
-    λ r. moved before after id (Row p (data_of is)) (datum_of (Vector q (elements_of is Last) r))
-    (ap (λ x. Row x (data_of is)) h.0 ∙ ap (Row q) (sym (vector_data is))) (b (data_of is) h.1)
-rowing_closes before after p ids id f h b = absurd h
+pub vector_closes : (before after : Seq Node) (p : Pos) (ids : Seq ℕ) (id : ℕ) (f : Frame)
+    → HoldsLevel before (level.InVector p ids) f
+    → ((is : Items) → StandAll before ids is → Builds before after id (datum.Vector p is)) → Closes before after (Some id) f
+vector_closes before after p ids id (InVector q is) h b =
+    λ r. moved before after id (datum.Vector p (data_of is)) (datum_of (Vector q (elements_of is Last) r))
+    (ap (λ x. datum.Vector x (data_of is)) h.0 ∙ ap (datum.Vector q) (sym (vector_data is))) (b (data_of is) h.1)
+vector_closes before after p ids id f h b = absurd h

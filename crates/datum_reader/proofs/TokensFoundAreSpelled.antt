@@ -8,21 +8,23 @@ use Rattle.scheme_base.specs.declared.pos.Pos.{Pos}
 use Rattle.scheme_base.specs.Positions.{position_after, is_line_end, after_byte}
 use Rattle.datum_form.specs.Grammar.{IsOneLine, AtLineEnd, IsTokens}
 use Rattle.datum_form.specs.Grammar.IsTokens.{ended, white, comment, token}
-use Rattle.datum_form.specs.Syntax.{Token}
-use Rattle.datum_form.specs.Syntax.Mark.{Quote, Quasiquote, Unquote, Splice}
-use Rattle.datum_form.specs.Syntax.Token.{Open, OpenVector, Close, Marking}
-use Rattle.datum_form.specs.Text.{Piece, Quoted, Lexed, quoted, run_length, line_length, word_piece, string_piece, character_piece, run_piece, mark_piece, token_piece, piece, lexed_after}
+use Rattle.datum_form.specs.declared.token.Token.{Token}
+use Rattle.datum_form.specs.declared.token.Mark.TheVariants.{Quote, Quasiquote, Unquote, Splice}
+use Rattle.datum_form.specs.declared.token.Token.TheVariants.{Open, OpenVector, Close, Marking}
+use Rattle.datum_form.specs.declared.piece.Piece.{Piece}
+use Rattle.datum_form.specs.Text.{Quoted, Lexed, quoted, run_length, line_length, word_piece, string_piece, character_piece, run_piece, mark_piece, token_piece, piece, lexed_after}
 use Rattle.datum_form.specs.Text.Ending.{Clean, BadAt, RangeAt, OpenAt}
-use Rattle.datum_form.specs.Text.Piece.{Blank, Found, BadToken, BadNumber, OpenText}
+use Rattle.datum_form.specs.declared.piece.Piece.TheVariants.{Blank, Found, BadToken, BadNumber, OpenString}
 use Rattle.datum_form.specs.Text.Quoted.{Closed, BadEscape, NeverClosed}
-use Rattle.datum_form.specs.Words.{Word, begins_with, small_word, character_word}
-use Rattle.datum_form.specs.Words.Word.{IsToken, OutOfRange, NoWord}
-use Rattle.datum_form.proofs.Numerals.{begins_one}
-use Rattle.datum_form.proofs.Pieces.{token_found}
-use Rattle.datum_form.proofs.Found.{front_token}
+use Rattle.datum_form.specs.declared.piece.Word.{Word}
+use Rattle.datum_form.specs.Words.{begins_with, small_word, character_word}
+use Rattle.datum_form.specs.declared.piece.Word.TheVariants.{IsToken, OutOfRange, NoWord}
+use Rattle.datum_form.proofs.NumbersAsWritten.{begins_one}
+use Rattle.datum_form.proofs.TokensAsWritten.{token_found}
+use Rattle.datum_form.proofs.FirstPieceOrStop.{front_token}
 use Rattle.datum_reader.specs.Lexing.{token_then, ends}
-use Rattle.datum_reader.proofs.Lexing.{piece_length_some, after_blank, at_token, at_bad_token, at_bad_number, at_open_text}
-use Rattle.datum_form.proofs.Pieces.{length_while-step, length_while-none}
+use Rattle.datum_reader.proofs.TokensByPieces.{piece_length_some, after_blank, at_token, at_bad_token, at_bad_number, at_open_string}
+use Rattle.datum_form.proofs.TokensAsWritten.{length_while-step, length_while-none}
 
 abbrev clean : List Token → Lexed
 clean ts = record { tokens = ts; ending = Clean }
@@ -117,7 +119,7 @@ NoBlank (Blank n) = ⊥
 NoBlank (Found t n) = Unit {0}
 NoBlank BadToken = Unit {0}
 NoBlank BadNumber = Unit {0}
-NoBlank OpenText = Unit {0}
+NoBlank OpenString = Unit {0}
 
 either : (b : Bool) (x y : Piece) → NoBlank x → NoBlank y → NoBlank (cond b x y)
 either true x y h k = h
@@ -213,8 +215,8 @@ token_shown k b p bytes ts BadNumber few is its none e more =
   where
     differ : RangeAt p ≡ Clean → ⊥
     differ h = cc
-token_shown k b p bytes ts OpenText few is its none e more =
-    absurd (differ (bad (ends (OpenAt p)) ts (sym (at_open_text p (b ∷ bytes) (omega arith) is) ∙ e)))
+token_shown k b p bytes ts OpenString few is its none e more =
+    absurd (differ (bad (ends (OpenAt p)) ts (sym (at_open_string p (b ∷ bytes) (omega arith) is) ∙ e)))
   where
     differ : OpenAt p ≡ Clean → ⊥
     differ h = cc

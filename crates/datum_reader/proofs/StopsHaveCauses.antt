@@ -8,19 +8,20 @@ use Rattle.scheme_base.specs.Positions.{position_after, after_byte}
 use Rattle.datum_form.specs.Grammar.{Delimited, NotNext, IsToken, IsTokens, NumberOut, NeverEnds, AtLineEnd}
 use Rattle.datum_form.specs.Grammar.IsToken.{opens, opens_vector, closes, quote, quasiquote, splice, unquote, string, character, word}
 use Rattle.datum_form.specs.Grammar.IsTokens.{ended, white, comment, token}
-use Rattle.datum_form.specs.Syntax.{Token}
-use Rattle.datum_form.specs.Text.{Piece, Lexed, Ending, line_length, token_piece, piece, lexed_after}
+use Rattle.datum_form.specs.declared.token.Token.{Token}
+use Rattle.datum_form.specs.declared.piece.Piece.{Piece}
+use Rattle.datum_form.specs.Text.{Lexed, Ending, line_length, token_piece, piece, lexed_after}
 use Rattle.datum_form.specs.Text.Ending.{BadAt, RangeAt, OpenAt}
-use Rattle.datum_form.specs.Text.Piece.{Blank, Found, BadToken, BadNumber, OpenText}
+use Rattle.datum_form.specs.declared.piece.Piece.TheVariants.{Blank, Found, BadToken, BadNumber, OpenString}
 use Rattle.datum_form.specs.Words.{begins_with}
-use Rattle.datum_form.proofs.Found.{Tells, front_token, tells_first}
-use Rattle.datum_form.proofs.Found.Tells.{found, out, unclosed, bad}
-use Rattle.datum_form.proofs.Pieces.{token_found, out_found, open_found}
+use Rattle.datum_form.proofs.FirstPieceOrStop.{Tells, front_token, tells_first}
+use Rattle.datum_form.proofs.FirstPieceOrStop.Tells.{found, out, unclosed, bad}
+use Rattle.datum_form.proofs.TokensAsWritten.{token_found, out_found, open_found}
 use Rattle.datum_reader.specs.Answer.{stop_of, Causes, Stops}
 use Rattle.datum_reader.specs.Lexing.{token_then, ends}
-use Rattle.datum_reader.proofs.Lexing.{piece_length_some, at_bad_token, at_bad_number, at_open_text}
-use Rattle.datum_reader.proofs.Spelled.{position_after-append}
-use Rattle.datum_reader.proofs.Texts.{NoBlank, past_white, past_comment, past_token, line_of, token_no_blank, first_byte}
+use Rattle.datum_reader.proofs.TokensByPieces.{piece_length_some, at_bad_token, at_bad_number, at_open_string}
+use Rattle.datum_reader.proofs.ValidDataReadBack.{position_after-append}
+use Rattle.datum_reader.proofs.TokensFoundAreSpelled.{NoBlank, past_white, past_comment, past_token, line_of, token_no_blank, first_byte}
 
 abbrev stop : Lexed → Option Pos
 stop lex = stop_of lex.ending
@@ -80,7 +81,7 @@ number_out p text x (out q l o) e = o
 number_out p text x (unclosed q l o) e = absurd (cc)
 number_out p text x (bad q l) e = absurd (cc)
 
-never_ends : (p : Pos) (text : List ℕ) (x : Piece) → Tells p text x → x ≡ OpenText → NeverEnds text
+never_ends : (p : Pos) (text : List ℕ) (x : Piece) → Tells p text x → x ≡ OpenString → NeverEnds text
 never_ends p text x (found q l t n f) e = absurd (cc)
 never_ends p text x (out q l o) e = absurd (cc)
 never_ends p text x (unclosed q l o) e = o
@@ -89,7 +90,7 @@ never_ends p text x (bad q l) e = absurd (cc)
 number_token : BadToken ≡ BadNumber → ⊥
 number_token e = cc
 
-open_token : BadToken ≡ OpenText → ⊥
+open_token : BadToken ≡ OpenString → ⊥
 open_token e = cc
 
 -- A text that stops after some of it
@@ -155,11 +156,11 @@ token_stops k b p bytes q BadNumber few is its none e more =
     same_lexed p text (lexed_after 0 p text) (ends (RangeAt p)) q all
     (here p q text BadNumber (RangeAt p) (omega arith) is (λ t n h. cc)
     (number_out p text (token_piece p text) (tells_first p text) its) (same_place p q (sym (ap stop all) ∙ e)))
-token_stops k b p bytes q OpenText few is its none e more =
+token_stops k b p bytes q OpenString few is its none e more =
     let text : List ℕ = b ∷ bytes in
-    let all = at_open_text p text (omega arith) is in
+    let all = at_open_string p text (omega arith) is in
     same_lexed p text (lexed_after 0 p text) (ends (OpenAt p)) q all
-    (here p q text OpenText (OpenAt p) (omega arith) is (λ t n h. cc)
+    (here p q text OpenString (OpenAt p) (omega arith) is (λ t n h. cc)
     (never_ends p text (token_piece p text) (tells_first p text) its) (same_place p q (sym (ap stop all) ∙ e)))
 
 comment_stops : (k b : ℕ) (p : Pos) (bytes : List ℕ) (q : Pos) → length (b ∷ bytes) ≤ suc k → b ≡ 59

@@ -4,8 +4,7 @@ use Rattle.std.specs.Prelude.{slice_get}
 use Rattle.std.proofs.lemmas.Option.{slice_get_within, slice_get_read, get_or_from_slice_get}
 use Rattle.std.proofs.lemmas.List.{get_or_append_left}
 use Rattle.datum_form.specs.declared.datums.Node.{Node}
-use Rattle.datum_form.specs.Data.{Datum, Items}
-use Rattle.datum_form.specs.Data.Datum.{Single, Chain, Dotted, Row}
+use Rattle.datum_form.specs.Data.{Datum, Datum as datum, Items}
 use Rattle.datum_form.specs.Data.Items.{none, item}
 use Rattle.datum_form.specs.Stands.{Stands, StandAll}
 
@@ -17,12 +16,12 @@ got_grown xs more i x h =
 
 mutual
   pub grown : (nodes more : Seq Node) (id : ℕ) (d : Datum) → Stands nodes id d → Stands (nodes ++ more) id d
-  grown nodes more id (Single p a) h = got_grown nodes more id _ h
-  grown nodes more id (Chain p is) h =
+  grown nodes more id (datum.Atomic p a) h = got_grown nodes more id _ h
+  grown nodes more id (datum.List p is) h =
       (h.0, got_grown nodes more id _ h.1, grown_all nodes more h.0 is h.2)
-  grown nodes more id (Dotted p is d) h =
+  grown nodes more id (datum.Dotted p is d) h =
       (h.0, h.1, got_grown nodes more id _ h.2, grown_all nodes more h.0 is h.3, grown nodes more h.1 d h.4)
-  grown nodes more id (Row p is) h = (h.0, got_grown nodes more id _ h.1, grown_all nodes more h.0 is h.2)
+  grown nodes more id (datum.Vector p is) h = (h.0, got_grown nodes more id _ h.1, grown_all nodes more h.0 is h.2)
 
   pub grown_all : (nodes more : Seq Node) (ids : Seq ℕ) (is : Items) → StandAll nodes ids is → StandAll (nodes ++ more) ids is
   grown_all nodes more ids none h = h

@@ -7,10 +7,9 @@ use Rattle.datum_form.specs.declared.datums.Kind.TheVariants as kind
 use Rattle.datum_form.specs.declared.datums.Node.{Node}
 use Rattle.datum_form.specs.declared.text.Part.{Part}
 use Rattle.datum_form.specs.declared.text.Part.TheVariants as part
-use Rattle.datum_form.specs.Syntax.{Atom}
-use Rattle.datum_form.specs.Syntax.Atom.{Integer, Boolean, Character, Text, Name}
-use Rattle.datum_form.specs.Data.{Datum, Items}
-use Rattle.datum_form.specs.Data.Datum.{Single, Chain, Dotted, Row}
+use Rattle.datum_form.specs.declared.token.Atom.{Atom}
+use Rattle.datum_form.specs.declared.token.Atom.TheVariants.{Integer, Boolean, Character, String, Symbol}
+use Rattle.datum_form.specs.Data.{Datum, Datum as datum, Items}
 use Rattle.datum_form.specs.Data.Items.{none, item}
 use Rattle.datum_form.specs.Pending.{Prints, PrintAll, Pending, Left, IsKind}
 use Rattle.datum_form.specs.Print.{text_of, items_text, more_text, lines_of}
@@ -90,15 +89,15 @@ pub no_list : (a : Atom) (ids : Seq ℕ) (end : Option ℕ) → kind_of a ≡ ki
 no_list (Integer n) ids end e = cc
 no_list (Boolean b) ids end e = cc
 no_list (Character c) ids end e = cc
-no_list (Text bytes) ids end e = cc
-no_list (Name bytes) ids end e = cc
+no_list (String bytes) ids end e = cc
+no_list (Symbol bytes) ids end e = cc
 
 no_vector : (a : Atom) (ids : Seq ℕ) → kind_of a ≡ kind.Vector ids → ⊥
 no_vector (Integer n) ids e = cc
 no_vector (Boolean b) ids e = cc
 no_vector (Character c) ids e = cc
-no_vector (Text bytes) ids e = cc
-no_vector (Name bytes) ids e = cc
+no_vector (String bytes) ids e = cc
+no_vector (Symbol bytes) ids e = cc
 
 -- a tail before what ends the list
 tail_pending : (nodes : Seq Node) (parts mid : Seq Part) (id : ℕ) (d : Datum) (rest : Seq ℕ)
@@ -122,21 +121,21 @@ pub list_printed : (nodes : Seq Node) (k : Kind) (d : Datum) (rest ids : Seq ℕ
     → ((id : ℕ) → tail ≡ Some id → mid ≡ parts ++ part.Close ∷ part.Tail id ∷ [])
     → ((is : Items) (r : Seq ℕ) → StandAll nodes ids is → Pending nodes mid r → Pending nodes all (items_text is ++ r))
     → Left nodes printed all (text ++ (text_of d ++ rest))
-list_printed nodes k (Single p a) rest ids tail parts mid all text printed e h pending first bare tailed items =
+list_printed nodes k (datum.Atomic p a) rest ids tail parts mid all text printed e h pending first bare tailed items =
     absurd (no_list a ids tail (sym h ∙ e))
-list_printed nodes k (Row p is) rest ids tail parts mid all text printed e h pending first bare tailed items =
+list_printed nodes k (datum.Vector p is) rest ids tail parts mid all text printed e h pending first bare tailed items =
     let differ : kind.Vector h.0 ≡ kind.List ids tail = sym h.1 ∙ e in absurd (cc)
-list_printed nodes k (Chain p is) rest ids tail parts mid all text printed e h pending first bare tailed items =
+list_printed nodes k (datum.List p is) rest ids tail parts mid all text printed e h pending first bare tailed items =
     let same : kind.List h.0 None ≡ kind.List ids tail = sym h.1 ∙ e in
     let ids_same : h.0 ≡ ids = cc in
     let no_tail : tail ≡ None = cc in
     let P : Seq ℕ → Type 0 = λ l. StandAll nodes l is in (
       items_text is ++ (codes ")" ++ rest),
       items is (codes ")" ++ rest) (subst P ids_same h.2) (closing nodes parts mid rest (bare no_tail) pending),
-      opened text printed (codes "(") (items_text is ++ (codes ")" ++ rest)) (text_of (Chain p is) ++ rest) first
+      opened text printed (codes "(") (items_text is ++ (codes ")" ++ rest)) (text_of (datum.List p is) ++ rest) first
           (ap (λ l. 40 ∷ l) (sym (append_assoc (items_text is) (codes ")") rest))),
     )
-list_printed nodes k (Dotted p is d) rest ids tail parts mid all text printed e h pending first bare tailed items =
+list_printed nodes k (datum.Dotted p is d) rest ids tail parts mid all text printed e h pending first bare tailed items =
     let same : kind.List h.0 (Some h.1) ≡ kind.List ids tail = sym h.2 ∙ e in
     let ids_same : h.0 ≡ ids = cc in
     let a_tail : tail ≡ Some h.1 = cc in
@@ -145,7 +144,7 @@ list_printed nodes k (Dotted p is d) rest ids tail parts mid all text printed e 
     let last : Seq ℕ = codes " . " ++ (text_of d ++ codes ")") in (
       items_text is ++ end,
       items is end (subst P ids_same h.3) (tail_pending nodes parts mid h.1 d rest (tailed h.1 a_tail) h.4 pending),
-      opened text printed (codes "(") (items_text is ++ end) (text_of (Dotted p is d) ++ rest) first
+      opened text printed (codes "(") (items_text is ++ end) (text_of (datum.Dotted p is d) ++ rest) first
           (ap (λ l. 40 ∷ l)
           (ap (λ l. items_text is ++ (32 ∷ 46 ∷ 32 ∷ l)) (sym (append_assoc (text_of d) (codes ")") rest))
           ∙ sym (append_assoc (items_text is) last rest))),
@@ -156,27 +155,27 @@ pub vector_printed : (nodes : Seq Node) (k : Kind) (d : Datum) (rest ids : Seq �
     → printed ≡ text ++ codes "#(" → mid ≡ parts ++ part.Close ∷ []
     → ((is : Items) (r : Seq ℕ) → StandAll nodes ids is → Pending nodes mid r → Pending nodes all (items_text is ++ r))
     → Left nodes printed all (text ++ (text_of d ++ rest))
-vector_printed nodes k (Single p a) rest ids parts mid all text printed e h pending first close items =
+vector_printed nodes k (datum.Atomic p a) rest ids parts mid all text printed e h pending first close items =
     absurd (no_vector a ids (sym h ∙ e))
-vector_printed nodes k (Chain p is) rest ids parts mid all text printed e h pending first close items =
+vector_printed nodes k (datum.List p is) rest ids parts mid all text printed e h pending first close items =
     let differ : kind.List h.0 None ≡ kind.Vector ids = sym h.1 ∙ e in absurd (cc)
-vector_printed nodes k (Dotted p is d) rest ids parts mid all text printed e h pending first close items =
+vector_printed nodes k (datum.Dotted p is d) rest ids parts mid all text printed e h pending first close items =
     let differ : kind.List h.0 (Some h.1) ≡ kind.Vector ids = sym h.2 ∙ e in absurd (cc)
-vector_printed nodes k (Row p is) rest ids parts mid all text printed e h pending first close items =
+vector_printed nodes k (datum.Vector p is) rest ids parts mid all text printed e h pending first close items =
     let same : kind.Vector h.0 ≡ kind.Vector ids = sym h.1 ∙ e in
     let ids_same : h.0 ≡ ids = cc in
     let P : Seq ℕ → Type 0 = λ l. StandAll nodes l is in (
       items_text is ++ (codes ")" ++ rest),
       items is (codes ")" ++ rest) (subst P ids_same h.2) (closing nodes parts mid rest close pending),
-      opened text printed (codes "#(") (items_text is ++ (codes ")" ++ rest)) (text_of (Row p is) ++ rest) first
+      opened text printed (codes "#(") (items_text is ++ (codes ")" ++ rest)) (text_of (datum.Vector p is) ++ rest) first
           (ap (λ l. 35 ∷ 40 ∷ l) (sym (append_assoc (items_text is) (codes ")") rest))),
     )
 
 pub is_there : (nodes : Seq Node) (id : ℕ) (d : Datum) → Stands nodes id d → slice_get nodes id ≡ None → ⊥
-is_there nodes id (Single p a) h e = let differ = sym e ∙ h in cc
-is_there nodes id (Chain p is) h e = let differ = sym e ∙ h.1 in cc
-is_there nodes id (Dotted p is d) h e = let differ = sym e ∙ h.2 in cc
-is_there nodes id (Row p is) h e = let differ = sym e ∙ h.1 in cc
+is_there nodes id (datum.Atomic p a) h e = let differ = sym e ∙ h in cc
+is_there nodes id (datum.List p is) h e = let differ = sym e ∙ h.1 in cc
+is_there nodes id (datum.Dotted p is d) h e = let differ = sym e ∙ h.2 in cc
+is_there nodes id (datum.Vector p is) h e = let differ = sym e ∙ h.1 in cc
 
 -- Parts in turn
 

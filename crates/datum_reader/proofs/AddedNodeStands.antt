@@ -5,16 +5,16 @@ use Rattle.scheme_base.specs.declared.pos.Pos.{Pos}
 use Rattle.datum_form.specs.declared.datums.Node.{Node}
 use Rattle.datum_form.specs.declared.datums.Kind.{Kind}
 use Rattle.datum_form.specs.declared.datums.Kind.TheVariants as kind
-use Rattle.datum_form.specs.Syntax.{Atom, Syntax}
+use Rattle.datum_form.specs.declared.token.Atom.{Atom}
+use Rattle.datum_form.specs.Syntax.{Syntax}
 use Rattle.datum_form.specs.Syntax.Syntax.{Listed}
 use Rattle.datum_form.specs.Syntax.Rest.{End, Tail}
 use Rattle.datum_form.specs.Syntax.Elements.{Last}
-use Rattle.datum_form.specs.Data.{Datum, Items, pair, datum_of, datum_of_rest, items_of, data_of}
-use Rattle.datum_form.specs.Data.Datum.{Single, Chain, Dotted, Row}
+use Rattle.datum_form.specs.Data.{Datum, Datum as datum, Items, pair, datum_of, datum_of_rest, items_of, data_of}
 use Rattle.datum_form.specs.Data.Items.{none, item}
 use Rattle.datum_form.specs.Stands.{kind_of, IsNode, Stands, StandAll}
-use Rattle.datum_form.proofs.Grown.{grown, grown_all}
-use Rattle.datum_form.proofs.Printing.{no_list}
+use Rattle.datum_form.proofs.DataStay.{grown, grown_all}
+use Rattle.datum_form.proofs.PrintedByParts.{no_list}
 use Rattle.datum_reader.specs.Machine.{rest_of, elements_of}
 use Rattle.datum_reader.specs.Nodes.{Builds, append, tailed}
 
@@ -44,7 +44,7 @@ one_grown before after more id d e h =
     subst P (sym e) (grown before more id d h)
 
 pub single_builds : (before after : Seq Node) (id : ℕ) (a : Atom) (p : Pos) → id ≡ length before
-    → after ≡ before ++ record { kind = kind_of a; pos = p } ∷ [] → Builds before after id (Single p a)
+    → after ≡ before ++ record { kind = kind_of a; pos = p } ∷ [] → Builds before after id (datum.Atomic p a)
 single_builds before after id a p number added =
     record {
       more = record { kind = kind_of a; pos = p } ∷ [];
@@ -54,7 +54,7 @@ single_builds before after id a p number added =
 
 pub list_builds : (before after : Seq Node) (id : ℕ) (ids : Seq ℕ) (is : Items) (p : Pos) → id ≡ length before
     → after ≡ before ++ record { kind = kind.List ids None; pos = p } ∷ [] → StandAll before ids is
-    → Builds before after id (Chain p is)
+    → Builds before after id (datum.List p is)
 list_builds before after id ids is p number added h =
     record {
       more = record { kind = kind.List ids None; pos = p } ∷ [];
@@ -65,7 +65,7 @@ list_builds before after id ids is p number added h =
 
 pub vector_builds : (before after : Seq Node) (id : ℕ) (ids : Seq ℕ) (is : Items) (p : Pos) → id ≡ length before
     → after ≡ before ++ record { kind = kind.Vector ids; pos = p } ∷ [] → StandAll before ids is
-    → Builds before after id (Row p is)
+    → Builds before after id (datum.Vector p is)
 vector_builds before after id ids is p number added h =
     record {
       more = record { kind = kind.Vector ids; pos = p } ∷ [];
@@ -85,11 +85,11 @@ builds_then before between after first id c d b e =
     }
 
 -- a mark's name and its datum, side by side
-pub two_stand : (before between : Seq Node) (first datum : ℕ) (ids : Seq ℕ) (c d : Datum)
-    → ids ≡ first ∷ datum ∷ [] → Builds before between first c → Stands before datum d
+pub two_stand : (before between : Seq Node) (first given : ℕ) (ids : Seq ℕ) (c d : Datum)
+    → ids ≡ first ∷ given ∷ [] → Builds before between first c → Stands before given d
     → StandAll between ids (item c (item d none))
-two_stand before between first datum ids c d e b h =
-    (first, datum ∷ [], e, b.stands, (datum, [], refl, one_grown before between b.more datum d b.whole h, refl))
+two_stand before between first given ids c d e b h =
+    (first, given ∷ [], e, b.stands, (given, [], refl, one_grown before between b.more given d b.whole h, refl))
 
 -- Joined tails
 
@@ -117,14 +117,14 @@ pub joins : (before after : Seq Node) (id tail : ℕ) (ids more : Seq ℕ) (end 
     → after ≡ before ++ record { kind = kind.List (ids ++ more) end; pos = p } ∷ []
     → slice_get before tail ≡ Some (record { kind = kind.List more end; pos = q })
     → StandAll before ids is → Stands before tail d → Builds before after id (tailed p is d)
-joins before after id tail ids more end is (Single r a) p q number added at h k =
+joins before after id tail ids more end is (datum.Atomic r a) p q number added at h k =
     absurd (no_list a more end (same_kind _ _ _ _ (sym k ∙ at)))
-joins before after id tail ids more end is (Row r js) p q number added at h k =
+joins before after id tail ids more end is (datum.Vector r js) p q number added at h k =
     absurd (differ (same_kind _ _ _ _ (sym k.1 ∙ at)))
   where
     differ : kind.Vector k.0 ≡ kind.List more end → ⊥
     differ e = cc
-joins before after id tail ids more end is (Chain r js) p q number added at h k =
+joins before after id tail ids more end is (datum.List r js) p q number added at h k =
     let same : kind.List k.0 None ≡ kind.List more end = same_kind _ _ _ _ (sym k.1 ∙ at) in
     let ids_same : k.0 ≡ more = cc in
     let end_same : None ≡ end = cc in
@@ -140,7 +140,7 @@ joins before after id tail ids more end is (Chain r js) p q number added at h k 
             (all_append before ids more is js h (subst P ids_same k.2)),
       );
     }
-joins before after id tail ids more end is (Dotted r js t) p q number added at h k =
+joins before after id tail ids more end is (datum.Dotted r js t) p q number added at h k =
     let same : kind.List k.0 (Some k.1) ≡ kind.List more end = same_kind _ _ _ _ (sym k.2 ∙ at) in
     let ids_same : k.0 ≡ more = cc in
     let end_same : Some k.1 ≡ end = cc in
@@ -165,10 +165,10 @@ pub stays_dotted : (before after : Seq Node) (id tail : ℕ) (ids : Seq ℕ) (is
     → after ≡ before ++ record { kind = kind.List ids (Some tail); pos = p } ∷ []
     → ((more : Seq ℕ) (end : Option ℕ) (q : Pos) → slice_get before tail ≡ Some (record { kind = kind.List more end; pos = q }) → ⊥)
     → StandAll before ids is → Stands before tail d → Builds before after id (tailed p is d)
-stays_dotted before after id tail ids is (Chain r js) p number added other h k = absurd (other k.0 None r k.1)
-stays_dotted before after id tail ids is (Dotted r js t) p number added other h k =
+stays_dotted before after id tail ids is (datum.List r js) p number added other h k = absurd (other k.0 None r k.1)
+stays_dotted before after id tail ids is (datum.Dotted r js t) p number added other h k =
     absurd (other k.0 (Some k.1) r k.2)
-stays_dotted before after id tail ids is (Single r a) p number added other h k =
+stays_dotted before after id tail ids is (datum.Atomic r a) p number added other h k =
     record {
       more = record { kind = kind.List ids (Some tail); pos = p } ∷ [];
       whole = added;
@@ -177,10 +177,10 @@ stays_dotted before after id tail ids is (Single r a) p number added other h k =
         tail,
         is_node before after id (kind.List ids (Some tail)) p number added,
         all_grown before after _ ids is added h,
-        one_grown before after _ tail (Single r a) added k,
+        one_grown before after _ tail (datum.Atomic r a) added k,
       );
     }
-stays_dotted before after id tail ids is (Row r js) p number added other h k =
+stays_dotted before after id tail ids is (datum.Vector r js) p number added other h k =
     record {
       more = record { kind = kind.List ids (Some tail); pos = p } ∷ [];
       whole = added;
@@ -189,7 +189,7 @@ stays_dotted before after id tail ids is (Row r js) p number added other h k =
         tail,
         is_node before after id (kind.List ids (Some tail)) p number added,
         all_grown before after _ ids is added h,
-        one_grown before after _ tail (Row r js) added k,
+        one_grown before after _ tail (datum.Vector r js) added k,
       );
     }
 
@@ -197,16 +197,16 @@ stays_dotted before after id tail ids is (Row r js) p number added other h k =
 
 pair_tailed : (p : Pos) (i j : Datum) (is : Items) (d : Datum)
     → pair p i (tailed p (item j is) d) ≡ tailed p (item i (item j is)) d
-pair_tailed p i j is (Single q a) = refl
-pair_tailed p i j is (Chain q js) = refl
-pair_tailed p i j is (Dotted q js t) = refl
-pair_tailed p i j is (Row q js) = refl
+pair_tailed p i j is (datum.Atomic q a) = refl
+pair_tailed p i j is (datum.List q js) = refl
+pair_tailed p i j is (datum.Dotted q js t) = refl
+pair_tailed p i j is (datum.Vector q js) = refl
 
 pair_one : (p : Pos) (i d : Datum) → pair p i d ≡ tailed p (item i none) d
-pair_one p i (Single q a) = refl
-pair_one p i (Chain q js) = refl
-pair_one p i (Dotted q js t) = refl
-pair_one p i (Row q js) = refl
+pair_one p i (datum.Atomic q a) = refl
+pair_one p i (datum.List q js) = refl
+pair_one p i (datum.Dotted q js t) = refl
+pair_one p i (datum.Vector q js) = refl
 
 pub dotted_data : (p d q : Pos) (a t : Syntax) (is : Seq Syntax)
     → datum_of (Listed p a (rest_of is (Tail d t)) q) ≡ tailed p (item (datum_of a) (data_of is)) (datum_of t)
@@ -215,12 +215,12 @@ dotted_data p d q a t (i ∷ is) =
     ap (pair p (datum_of a)) (dotted_data p d q i t is)
     ∙ pair_tailed p (datum_of a) (datum_of i) (data_of is) (datum_of t)
 
-rest_data : (p : Pos) (is : Seq Syntax) → datum_of_rest p (rest_of is End) ≡ Chain p (data_of is)
+rest_data : (p : Pos) (is : Seq Syntax) → datum_of_rest p (rest_of is End) ≡ datum.List p (data_of is)
 rest_data p [] = refl
 rest_data p (i ∷ is) = ap (pair p (datum_of i)) (rest_data p is)
 
 pub list_data : (p q : Pos) (a : Syntax) (is : Seq Syntax)
-    → datum_of (Listed p a (rest_of is End) q) ≡ Chain p (data_of (a ∷ is))
+    → datum_of (Listed p a (rest_of is End) q) ≡ datum.List p (data_of (a ∷ is))
 list_data p q a is = ap (pair p (datum_of a)) (rest_data p is)
 
 pub vector_data : (is : Seq Syntax) → items_of (elements_of is Last) ≡ data_of is

@@ -2,13 +2,14 @@
 -- is read differently.
 use Rattle.std.proofs.Common.{◌≡◌, ℕ, zero, suc, ◌+◌, Bool, true, false, List, [], ◌∷◌, refl, sym, ap, subst, ◌∙◌, arith}
 use Rattle.scheme_base.specs.declared.pos.Pos.{Pos}
-use Rattle.datum_form.specs.Syntax.{Token, Syntax, place_of}
-use Rattle.datum_form.specs.Syntax.Token.{Open, OpenVector, Close, Dot, Marking, Single}
-use Rattle.datum_form.specs.Syntax.Syntax.{Leaf, Marked, Empty, Listed, Vector}
+use Rattle.datum_form.specs.declared.token.Token.{Token}
+use Rattle.datum_form.specs.Syntax.{Syntax, place_of}
+use Rattle.datum_form.specs.declared.token.Token.TheVariants.{Open, OpenVector, Close, Dot, Marking, Atomic}
+use Rattle.datum_form.specs.Syntax.Syntax.{Leaf, Marked, Nil, Listed, Vector}
 use Rattle.datum_form.specs.Syntax.Rest.{End, Tail}
 use Rattle.datum_form.specs.Syntax.Elements.{Last}
 use Rattle.datum_reader.specs.Machine.{Frame, Run, rest_of, elements_of, room, give, in_room, open_one, dot, shut, step, run}
-use Rattle.datum_reader.specs.Machine.Frame.{Opened, Listing, Dotted, Tailed, Rowing, Waiting}
+use Rattle.datum_reader.specs.Machine.Frame.{Opened, Listing, Dotted, Tailed, InVector, Waiting}
 use Rattle.datum_reader.specs.Machine.Run.{On, Stray, Deep}
 
 -- Readings
@@ -57,7 +58,7 @@ lift_give (Opened p ∷ fs) n tops s = refl
 lift_give (Listing p a is ∷ fs) n tops s = refl
 lift_give (Dotted p a is d ∷ fs) n tops s = refl
 lift_give (Tailed p a is d t ∷ fs) n tops s = refl
-lift_give (Rowing p is ∷ fs) n tops s = refl
+lift_give (InVector p is ∷ fs) n tops s = refl
 lift_give (Waiting p m ∷ fs) n tops s = lift_give fs (suc n) tops (Marked p m s)
 
 lift_open : (n : ℕ) (f : Frame) (fs : List Frame) (tops : List Syntax) (p : Pos) → NotDeep (open_one n f fs tops p)
@@ -76,17 +77,17 @@ lift_dot (Opened p ∷ fs) n tops q = refl
 lift_dot (Listing p a is ∷ fs) n tops q = refl
 lift_dot (Dotted p a is d ∷ fs) n tops q = refl
 lift_dot (Tailed p a is d t ∷ fs) n tops q = refl
-lift_dot (Rowing p is ∷ fs) n tops q = refl
+lift_dot (InVector p is ∷ fs) n tops q = refl
 lift_dot (Waiting p m ∷ fs) n tops q = refl
 
 lift_shut : (fs : List Frame) (n : ℕ) (tops : List Syntax) (q : Pos)
     → shut (suc n) fs tops q ≡ lift (shut n fs tops q)
 lift_shut [] n tops q = refl
-lift_shut (Opened p ∷ fs) n tops q = lift_give fs (suc n) tops (Empty p q)
+lift_shut (Opened p ∷ fs) n tops q = lift_give fs (suc n) tops (Nil p q)
 lift_shut (Listing p a is ∷ fs) n tops q = lift_give fs (suc n) tops (Listed p a (rest_of is End) q)
 lift_shut (Dotted p a is d ∷ fs) n tops q = refl
 lift_shut (Tailed p a is d t ∷ fs) n tops q = lift_give fs (suc n) tops (Listed p a (rest_of is (Tail d t)) q)
-lift_shut (Rowing p is ∷ fs) n tops q = lift_give fs (suc n) tops (Vector p (elements_of is Last) q)
+lift_shut (InVector p is ∷ fs) n tops q = lift_give fs (suc n) tops (Vector p (elements_of is Last) q)
 lift_shut (Waiting p m ∷ fs) n tops q = refl
 
 lift_step : (t : Token) (n : ℕ) (fs : List Frame) (tops : List Syntax) → NotDeep (step n fs tops t)
@@ -95,14 +96,14 @@ lift_step (Open p) n fs tops h =
     lift_room (room fs) p (open_one n (Opened p) fs tops p) (open_one (suc n) (Opened p) fs tops p)
     (lift_open n (Opened p) fs tops p) h
 lift_step (OpenVector p) n fs tops h =
-    lift_room (room fs) p (open_one n (Rowing p []) fs tops p) (open_one (suc n) (Rowing p []) fs tops p)
-    (lift_open n (Rowing p []) fs tops p) h
+    lift_room (room fs) p (open_one n (InVector p []) fs tops p) (open_one (suc n) (InVector p []) fs tops p)
+    (lift_open n (InVector p []) fs tops p) h
 lift_step (Close q) n fs tops h = lift_shut fs n tops q
 lift_step (Dot q) n fs tops h = lift_dot fs n tops q
 lift_step (Marking p m) n fs tops h =
     lift_room (room fs) p (open_one n (Waiting p m) fs tops p) (open_one (suc n) (Waiting p m) fs tops p)
     (lift_open n (Waiting p m) fs tops p) h
-lift_step (Single p a) n fs tops h =
+lift_step (Atomic p a) n fs tops h =
     lift_room (room fs) p (give n fs tops (Leaf p a)) (give (suc n) fs tops (Leaf p a))
     (λ _. lift_give fs n tops (Leaf p a)) h
 
@@ -172,7 +173,7 @@ give_on (Opened p ∷ fs) n tops s = tt
 give_on (Listing p a is ∷ fs) n tops s = tt
 give_on (Dotted p a is d ∷ fs) n tops s = tt
 give_on (Tailed p a is d t ∷ fs) n tops s = tt
-give_on (Rowing p is ∷ fs) n tops s = tt
+give_on (InVector p is ∷ fs) n tops s = tt
 give_on (Waiting p m ∷ fs) n tops s = give_on fs (suc n) tops (Marked p m s)
 
 on_or_deep : (r : Run) → IsOn r → TooDeep r → ⊥
@@ -196,7 +197,7 @@ deep_dot (Opened p ∷ fs) n tops q h = h
 deep_dot (Listing p a is ∷ fs) n tops q h = h
 deep_dot (Dotted p a is d ∷ fs) n tops q h = h
 deep_dot (Tailed p a is d t ∷ fs) n tops q h = h
-deep_dot (Rowing p is ∷ fs) n tops q h = h
+deep_dot (InVector p is ∷ fs) n tops q h = h
 deep_dot (Waiting p m ∷ fs) n tops q h = h
 
 deep_give : (fs : List Frame) (n : ℕ) (tops : List Syntax) (s : Syntax) → TooDeep (give n fs tops s) → ⊥
@@ -204,11 +205,11 @@ deep_give fs n tops s h = on_or_deep (give n fs tops s) (give_on fs n tops s) h
 
 deep_shut : (fs : List Frame) (n : ℕ) (tops : List Syntax) (q : Pos) → TooDeep (shut n fs tops q) → ⊥
 deep_shut [] n tops q h = h
-deep_shut (Opened p ∷ fs) n tops q h = deep_give fs (suc n) tops (Empty p q) h
+deep_shut (Opened p ∷ fs) n tops q h = deep_give fs (suc n) tops (Nil p q) h
 deep_shut (Listing p a is ∷ fs) n tops q h = deep_give fs (suc n) tops (Listed p a (rest_of is End) q) h
 deep_shut (Dotted p a is d ∷ fs) n tops q h = h
 deep_shut (Tailed p a is d t ∷ fs) n tops q h = deep_give fs (suc n) tops (Listed p a (rest_of is (Tail d t)) q) h
-deep_shut (Rowing p is ∷ fs) n tops q h = deep_give fs (suc n) tops (Vector p (elements_of is Last) q) h
+deep_shut (InVector p is ∷ fs) n tops q h = deep_give fs (suc n) tops (Vector p (elements_of is Last) q) h
 deep_shut (Waiting p m ∷ fs) n tops q h = h
 
 -- with one level more, the token is read
@@ -218,14 +219,14 @@ deep_step (Open p) n fs tops h =
     deep_room (room fs) p (open_one n (Opened p) fs tops p) (open_one (suc n) (Opened p) fs tops p)
     (deep_open n (Opened p) fs tops p) h
 deep_step (OpenVector p) n fs tops h =
-    deep_room (room fs) p (open_one n (Rowing p []) fs tops p) (open_one (suc n) (Rowing p []) fs tops p)
-    (deep_open n (Rowing p []) fs tops p) h
+    deep_room (room fs) p (open_one n (InVector p []) fs tops p) (open_one (suc n) (InVector p []) fs tops p)
+    (deep_open n (InVector p []) fs tops p) h
 deep_step (Close q) n fs tops h = absurd (deep_shut fs n tops q h)
 deep_step (Dot q) n fs tops h = absurd (deep_dot fs n tops q h)
 deep_step (Marking p m) n fs tops h =
     deep_room (room fs) p (open_one n (Waiting p m) fs tops p) (open_one (suc n) (Waiting p m) fs tops p)
     (deep_open n (Waiting p m) fs tops p) h
-deep_step (Single p a) n fs tops h =
+deep_step (Atomic p a) n fs tops h =
     deep_room (room fs) p (give n fs tops (Leaf p a)) (give (suc n) fs tops (Leaf p a))
     (λ deep. absurd (deep_give fs n tops (Leaf p a) deep)) h
 
@@ -256,7 +257,7 @@ at_dot (Opened p ∷ fs) n tops q = refl
 at_dot (Listing p a is ∷ fs) n tops q = tt
 at_dot (Dotted p a is d ∷ fs) n tops q = refl
 at_dot (Tailed p a is d t ∷ fs) n tops q = refl
-at_dot (Rowing p is ∷ fs) n tops q = refl
+at_dot (InVector p is ∷ fs) n tops q = refl
 at_dot (Waiting p m ∷ fs) n tops q = refl
 
 at_give : (fs : List Frame) (n : ℕ) (tops : List Syntax) (s : Syntax) (q : Pos) → AtPlace q (give n fs tops s)
@@ -264,20 +265,20 @@ at_give fs n tops s q = at_on (give n fs tops s) q (give_on fs n tops s)
 
 at_shut : (fs : List Frame) (n : ℕ) (tops : List Syntax) (q : Pos) → AtPlace q (shut n fs tops q)
 at_shut [] n tops q = refl
-at_shut (Opened p ∷ fs) n tops q = at_give fs (suc n) tops (Empty p q) q
+at_shut (Opened p ∷ fs) n tops q = at_give fs (suc n) tops (Nil p q) q
 at_shut (Listing p a is ∷ fs) n tops q = at_give fs (suc n) tops (Listed p a (rest_of is End) q) q
 at_shut (Dotted p a is d ∷ fs) n tops q = refl
 at_shut (Tailed p a is d t ∷ fs) n tops q = at_give fs (suc n) tops (Listed p a (rest_of is (Tail d t)) q) q
-at_shut (Rowing p is ∷ fs) n tops q = at_give fs (suc n) tops (Vector p (elements_of is Last) q) q
+at_shut (InVector p is ∷ fs) n tops q = at_give fs (suc n) tops (Vector p (elements_of is Last) q) q
 at_shut (Waiting p m ∷ fs) n tops q = refl
 
 pub at_step : (t : Token) (n : ℕ) (fs : List Frame) (tops : List Syntax) → AtPlace (place_of t) (step n fs tops t)
 at_step (Open p) n fs tops = at_room (room fs) p (open_one n (Opened p) fs tops p) (at_open n (Opened p) fs tops p)
 at_step (OpenVector p) n fs tops =
-    at_room (room fs) p (open_one n (Rowing p []) fs tops p) (at_open n (Rowing p []) fs tops p)
+    at_room (room fs) p (open_one n (InVector p []) fs tops p) (at_open n (InVector p []) fs tops p)
 at_step (Close q) n fs tops = at_shut fs n tops q
 at_step (Dot q) n fs tops = at_dot fs n tops q
 at_step (Marking p m) n fs tops =
     at_room (room fs) p (open_one n (Waiting p m) fs tops p) (at_open n (Waiting p m) fs tops p)
-at_step (Single p a) n fs tops =
+at_step (Atomic p a) n fs tops =
     at_room (room fs) p (give n fs tops (Leaf p a)) (at_give fs n tops (Leaf p a) p)

@@ -13,11 +13,11 @@ use Rattle.datum_reader.specs.declared.error.ReadErr.TheVariants.{Unclosed}
 use Rattle.datum_reader.specs.Answer.{max_depth}
 use Rattle.datum_reader.specs.Levels.{HoldsLevel}
 use Rattle.datum_reader.specs.Machine.{Frame, Run, frame_place, room, in_room, open_one}
-use Rattle.datum_reader.specs.Machine.Frame.{Opened, Listing, Dotted, Tailed, Rowing, Waiting}
+use Rattle.datum_reader.specs.Machine.Frame.{Opened, Listing, Dotted, Tailed, InVector, Waiting}
 use Rattle.datum_reader.specs.Machine.Run.{On, Stray, Deep}
 use Rattle.datum_reader.specs.Reading.{HoldsLevels, IsAt, Innermost, Finishes}
-use Rattle.datum_reader.proofs.Builds.{all_grown}
-use Rattle.datum_reader.proofs.States.{levels_grown, last_first, one_longer}
+use Rattle.datum_reader.proofs.AddedNodeStands.{all_grown}
+use Rattle.datum_reader.proofs.LevelsAfterDatum.{levels_grown, last_first, one_longer}
 
 -- Room
 
@@ -28,7 +28,7 @@ no_room nodes p ids tail (Opened q ∷ fs) h = absurd h
 no_room nodes p ids tail (Listing q a is ∷ fs) h = absurd h
 no_room nodes p ids tail (Dotted q a is d ∷ fs) h = absurd h
 no_room nodes p ids tail (Tailed q a is d t ∷ fs) h = refl
-no_room nodes p ids tail (Rowing q is ∷ fs) h = absurd h
+no_room nodes p ids tail (InVector q is ∷ fs) h = absurd h
 no_room nodes p ids tail (Waiting q m ∷ fs) h = absurd h
 
 pub room_else : (nodes : Seq Node) (l : Level) (fs : Seq Frame) → Innermost nodes (Some l) fs
@@ -39,7 +39,7 @@ room_else nodes l (Listing q a is ∷ fs) h other = refl
 room_else nodes l (Dotted q a is d ∷ fs) h other = refl
 room_else nodes (level.Tailed p ids tail) (Tailed q a is d t ∷ fs) h other = absurd (other p ids tail refl)
 room_else nodes l (Tailed q a is d t ∷ fs) h other = absurd h
-room_else nodes l (Rowing q is ∷ fs) h other = refl
+room_else nodes l (InVector q is ∷ fs) h other = refl
 room_else nodes l (Waiting q m ∷ fs) h other = refl
 
 pub room_outside : (fs : Seq Frame) → fs ≡ [] → room fs ≡ true

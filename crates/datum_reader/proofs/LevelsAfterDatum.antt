@@ -4,30 +4,28 @@ use Rattle.std.specs.Prelude.{reverse}
 use Rattle.std.proofs.lemmas.List.{reverse-append}
 use Rattle.scheme_base.specs.declared.pos.Pos.{Pos}
 use Rattle.datum_form.specs.declared.datums.Node.{Node}
-use Rattle.datum_form.specs.Data.{Datum, datum_of, data_of, mark_name}
-use Rattle.datum_form.specs.Data.Datum.{Single, Chain}
+use Rattle.datum_form.specs.Data.{Datum, Datum as datum, datum_of, data_of, mark_name}
 use Rattle.datum_form.specs.Data.Items.{none, item}
 use Rattle.datum_form.specs.Stands.{Stands, StandAll}
 use Rattle.datum_form.specs.Syntax.{Syntax}
-use Rattle.datum_form.specs.Syntax.Atom.{Name}
-use Rattle.datum_form.specs.Syntax.Syntax.{Marked, Empty, Listed, Vector}
+use Rattle.datum_form.specs.declared.token.Atom.TheVariants.{Symbol}
+use Rattle.datum_form.specs.Syntax.Syntax.{Marked, Nil, Listed, Vector}
 use Rattle.datum_form.specs.Syntax.Rest.{End, Tail}
 use Rattle.datum_form.specs.Syntax.Elements.{Last}
-use Rattle.datum_form.proofs.Grown.{grown, grown_all}
+use Rattle.datum_form.proofs.DataStay.{grown, grown_all}
 use Rattle.datum_reader.specs.declared.level.Level.{Level}
 use Rattle.datum_reader.specs.declared.level.Level.TheVariants as level
-use Rattle.datum_reader.specs.declared.token.Mark.{Mark}
-use Rattle.datum_reader.specs.Found.{mark_of}
+use Rattle.datum_form.specs.declared.token.Mark.{Mark}
 use Rattle.datum_reader.specs.Levels.{HoldsLevel, IsLevel, with_tree, Closes}
 use Rattle.datum_reader.specs.Machine.{Frame, Run, give, shut, rest_of, elements_of}
 use Rattle.datum_reader.specs.Machine.Run.{On}
 use Rattle.datum_reader.specs.Answer.{max_depth}
 use Rattle.datum_reader.specs.declared.reading.Reading.{Reading}
-use Rattle.datum_reader.specs.Machine.Frame.{Opened, Listing, Dotted, Tailed, Rowing, Waiting}
+use Rattle.datum_reader.specs.Machine.Frame.{Opened, Listing, Dotted, Tailed, InVector, Waiting}
 use Rattle.datum_reader.specs.Nodes.{Builds}
 use Rattle.datum_reader.specs.Reading.{HoldsLevels, Holds, IsAt, IsReading, Goes}
-use Rattle.datum_reader.proofs.Builds.{all_grown}
-use Rattle.datum_reader.proofs.Levels.{one_more}
+use Rattle.datum_reader.proofs.AddedNodeStands.{all_grown}
+use Rattle.datum_reader.proofs.LevelTakesOrCloses.{one_more}
 
 -- Nodes that are added
 
@@ -39,7 +37,7 @@ level_grown nodes more (level.Dotted p ids) (Dotted q a is d) h =
     (h.0, grown_all nodes more ids (data_of (a ∷ is)) h.1)
 level_grown nodes more (level.Tailed p ids tail) (Tailed q a is d t) h =
     (h.0, grown_all nodes more ids (data_of (a ∷ is)) h.1, grown nodes more tail (datum_of t) h.2)
-level_grown nodes more (level.Rowing p ids) (Rowing q is) h = (h.0, grown_all nodes more ids (data_of is) h.1)
+level_grown nodes more (level.InVector p ids) (InVector q is) h = (h.0, grown_all nodes more ids (data_of is) h.1)
 level_grown nodes more (level.Waiting p m) (Waiting q k) h = h
 level_grown nodes more l f h = absurd h
 
@@ -57,13 +55,13 @@ pub record Outer (nodes : Seq Node) (ls : Seq Level) (p : Pos) (m : Mark) (fs : 
   pub frames : Seq Frame
   pub holds : HoldsLevels nodes ls frames
   pub tree : Syntax
-  pub is : datum_of tree ≡ Chain p (item (Single p (Name (mark_name (mark_of m)))) (item (datum_of t) none))
+  pub is : datum_of tree ≡ datum.List p (item (datum.Atomic p (Symbol (mark_name m))) (item (datum_of t) none))
   pub same : (n : ℕ) (us : Seq Syntax) → give n fs us t ≡ give (suc n) frames us tree
 
 mark_data : (p q : Pos) (m : Mark) (t : Syntax) → p ≡ q
-    → datum_of (Marked q (mark_of m) t) ≡ Chain p (item (Single p (Name (mark_name (mark_of m)))) (item (datum_of t) none))
+    → datum_of (Marked q m t) ≡ datum.List p (item (datum.Atomic p (Symbol (mark_name m))) (item (datum_of t) none))
 mark_data p q m t e =
-    ap (λ r. Chain r (item (Single r (Name (mark_name (mark_of m)))) (item (datum_of t) none))) (sym e)
+    ap (λ r. datum.List r (item (datum.Atomic r (Symbol (mark_name m))) (item (datum_of t) none))) (sym e)
 
 outer_mark : (nodes : Seq Node) (ls : Seq Level) (p : Pos) (m : Mark) (f : Frame) (fs : Seq Frame) (t : Syntax)
     → HoldsLevel nodes (level.Waiting p m) f → HoldsLevels nodes ls fs → Outer nodes ls p m (f ∷ fs) t
@@ -71,7 +69,7 @@ outer_mark nodes ls p m (Waiting q k) fs t h rest =
     record {
       frames = fs;
       holds = rest;
-      tree = Marked q (mark_of m) t;
+      tree = Marked q m t;
       is = mark_data p q m t h.0;
       same = λ n us. ap (λ j. give (suc n) fs us (Marked q j t)) (sym h.1);
     }
@@ -86,7 +84,7 @@ pub waits : (r next : Reading) (p : Pos) (m : Mark) (id given : ℕ) (us : Seq S
     → reverse r.levels.items ≡ level.Waiting p m ∷ reverse next.levels.items
     → length r.levels.items ≡ length next.levels.items + 1 → next.tops ≡ r.tops
     → ((d : Datum) → Stands r.nodes id d
-    → Builds r.nodes next.nodes given (Chain p (item (Single p (Name (mark_name (mark_of m)))) (item d none))))
+    → Builds r.nodes next.nodes given (datum.List p (item (datum.Atomic p (Symbol (mark_name m))) (item d none))))
     → Goes next given us end
 waits r next p m id given us end g popped count tops builds =
     let AtLevels : Seq Level → Type 0 = λ ls. HoldsLevels r.nodes ls g.frames in
@@ -120,7 +118,7 @@ given_one nodes l (Opened p) fs n us t h other = refl
 given_one nodes l (Listing p a is) fs n us t h other = refl
 given_one nodes l (Dotted p a is d) fs n us t h other = refl
 given_one nodes l (Tailed p a is d s) fs n us t h other = refl
-given_one nodes l (Rowing p is) fs n us t h other = refl
+given_one nodes l (InVector p is) fs n us t h other = refl
 given_one nodes (level.Waiting q m) (Waiting p k) fs n us t h other = absurd (other q m refl)
 given_one nodes l (Waiting p k) fs n us t h other = absurd h
 
@@ -206,13 +204,13 @@ pub record Closed (before after : Seq Node) (id n : ℕ) (f : Frame) (fs : Seq F
 
 closed_frame : (before after : Seq Node) (id n : ℕ) (f : Frame) (fs : Seq Frame) (us : Seq Syntax) (q : Pos)
     → Closes before after (Some id) f → Closed before after id n f fs us q
-closed_frame before after id n (Opened p) fs us q h = record { tree = Empty p q; builds = h q; same = refl }
+closed_frame before after id n (Opened p) fs us q h = record { tree = Nil p q; builds = h q; same = refl }
 closed_frame before after id n (Listing p a is) fs us q h =
     record { tree = Listed p a (rest_of is End) q; builds = h q; same = refl }
 closed_frame before after id n (Dotted p a is d) fs us q h = absurd (cc)
 closed_frame before after id n (Tailed p a is d t) fs us q h =
     record { tree = Listed p a (rest_of is (Tail d t)) q; builds = h q; same = refl }
-closed_frame before after id n (Rowing p is) fs us q h =
+closed_frame before after id n (InVector p is) fs us q h =
     record { tree = Vector p (elements_of is Last) q; builds = h q; same = refl }
 closed_frame before after id n (Waiting p m) fs us q h = absurd (cc)
 

@@ -8,12 +8,12 @@ use Rattle.scheme_base.specs.Integers.{in_range}
 use Rattle.std.proofs.lemmas.Option.{none-some}
 use Rattle.datum_form.specs.Grammar.{IsWord, IsNumber}
 use Rattle.datum_form.specs.Grammar.IsWord.{dot, true_word, false_word, number, name}
-use Rattle.datum_form.specs.Syntax.{Token}
-use Rattle.datum_form.specs.Syntax.Atom.{Integer, Boolean, Name}
-use Rattle.datum_form.specs.Syntax.Token.{Dot, Single}
+use Rattle.datum_form.specs.declared.token.Token.{Token}
+use Rattle.datum_form.specs.declared.token.Atom.TheVariants.{Integer, Boolean, Symbol}
+use Rattle.datum_form.specs.declared.token.Token.TheVariants.{Dot, Atomic}
 use Rattle.datum_form.specs.Words.{digit, is_initial, is_ordinary, all_subsequent, is_name, number as number_of, name_word, number_or_name, small_word}
-use Rattle.datum_form.specs.Words.Word.{IsToken, OutOfRange, NoWord}
-use Rattle.datum_form.proofs.Numerals.{apart, and_left, and_right, same_byte, plain, number_read, number_written}
+use Rattle.datum_form.specs.declared.piece.Word.TheVariants.{IsToken, OutOfRange, NoWord}
+use Rattle.datum_form.proofs.NumbersAsWritten.{apart, and_left, and_right, same_byte, plain, number_read, number_written}
 
 -- A test of all numbers below a bound
 
@@ -111,12 +111,12 @@ word_read p text t (number q word z h range) =
     let is = number_read text z h in
     small_else p text (λ e. none-some z (sym (ap number_of e) ∙ is)) (λ e. none-some z (sym (ap number_of e) ∙ is))
     (λ e. none-some z (sym (ap number_of e) ∙ is))
-    ∙ (ap (number_or_name p text) is ∙ ap (λ b. cond b (IsToken (Single p (Integer z))) OutOfRange) range)
+    ∙ (ap (number_or_name p text) is ∙ ap (λ b. cond b (IsToken (Atomic p (Integer z))) OutOfRange) range)
 word_read p text t (name q word h) =
     small_else p text (λ e. apart (sym h ∙ ap is_name e)) (λ e. apart (sym h ∙ ap is_name e))
     (λ e. apart (sym h ∙ ap is_name e))
     ∙ (ap (number_or_name p text) (name_number text h)
-    ∙ ap (λ b. cond b (IsToken (Single p (Name text))) NoWord) h)
+    ∙ ap (λ b. cond b (IsToken (Atomic p (Symbol text))) NoWord) h)
 
 respelled : (p : Pos) (text word : List ℕ) (t u : Token) → text ≡ word → IsToken u ≡ IsToken t → IsWord p word u
     → IsWord p text t
@@ -135,8 +135,8 @@ out_token t e = cc
 name_written : (p : Pos) (text : List ℕ) (t : Token) → name_word p text ≡ IsToken t → IsWord p text t
 name_written p text t h = at (is_name text) refl h
   where
-    at : (b : Bool) → is_name text ≡ b → cond b (IsToken (Single p (Name text))) NoWord ≡ IsToken t → IsWord p text t
-    at true e f = respelled p text text t (Single p (Name text)) refl f (name p text e)
+    at : (b : Bool) → is_name text ≡ b → cond b (IsToken (Atomic p (Symbol text))) NoWord ≡ IsToken t → IsWord p text t
+    at true e f = respelled p text text t (Atomic p (Symbol text)) refl f (name p text e)
     at false e f = absurd (no_token t f)
 
 other_written : (p : Pos) (text : List ℕ) (t : Token) (o : Option ℤ) → number_of text ≡ o
@@ -144,8 +144,8 @@ other_written : (p : Pos) (text : List ℕ) (t : Token) (o : Option ℤ) → num
 other_written p text t None e h = name_written p text t h
 other_written p text t (Some z) e h = at (in_range z) refl h
   where
-    at : (b : Bool) → in_range z ≡ b → cond b (IsToken (Single p (Integer z))) OutOfRange ≡ IsToken t → IsWord p text t
-    at true r f = respelled p text text t (Single p (Integer z)) refl f (number p text z (number_written text z e) r)
+    at : (b : Bool) → in_range z ≡ b → cond b (IsToken (Atomic p (Integer z))) OutOfRange ≡ IsToken t → IsWord p text t
+    at true r f = respelled p text text t (Atomic p (Integer z)) refl f (number p text z (number_written text z e) r)
     at false r f = absurd (out_token t f)
 
 pub word_written : (p : Pos) (text : List ℕ) (t : Token) → small_word p text ≡ IsToken t → IsWord p text t
@@ -153,14 +153,14 @@ word_written p text t h =
     at (bytes_eq text (codes ".")) (bytes_eq text (codes "#t")) (bytes_eq text (codes "#f")) refl refl refl h
   where
     at : (d y n : Bool) → bytes_eq text (codes ".") ≡ d → bytes_eq text (codes "#t") ≡ y → bytes_eq text (codes "#f") ≡ n
-        → cond d (IsToken (Dot p)) (cond y (IsToken (Single p (Boolean true)))
-        (cond n (IsToken (Single p (Boolean false))) (number_or_name p text (number_of text)))) ≡ IsToken t
+        → cond d (IsToken (Dot p)) (cond y (IsToken (Atomic p (Boolean true)))
+        (cond n (IsToken (Atomic p (Boolean false))) (number_or_name p text (number_of text)))) ≡ IsToken t
         → IsWord p text t
     at true y n hd hy hn e = respelled p text (codes ".") t (Dot p) (same_bytes text (codes ".") hd) e (dot p)
     at false true n hd hy hn e =
-        respelled p text (codes "#t") t (Single p (Boolean true)) (same_bytes text (codes "#t") hy) e (true_word p)
+        respelled p text (codes "#t") t (Atomic p (Boolean true)) (same_bytes text (codes "#t") hy) e (true_word p)
     at false false true hd hy hn e =
-        respelled p text (codes "#f") t (Single p (Boolean false)) (same_bytes text (codes "#f") hn) e (false_word p)
+        respelled p text (codes "#f") t (Atomic p (Boolean false)) (same_bytes text (codes "#f") hn) e (false_word p)
     at false false false hd hy hn e = other_written p text t (number_of text) refl e
 
 -- Numbers out of range
@@ -170,14 +170,14 @@ out_read p text z h range =
     let is = number_read text z h in
     small_else p text (λ e. none-some z (sym (ap number_of e) ∙ is)) (λ e. none-some z (sym (ap number_of e) ∙ is))
     (λ e. none-some z (sym (ap number_of e) ∙ is))
-    ∙ (ap (number_or_name p text) is ∙ ap (λ b. cond b (IsToken (Single p (Integer z))) OutOfRange) range)
+    ∙ (ap (number_or_name p text) is ∙ ap (λ b. cond b (IsToken (Atomic p (Integer z))) OutOfRange) range)
 
 pub record Out (text : List ℕ) : Type 0 where
   pub value : ℤ
   pub is_number : IsNumber text value
   pub out : in_range value ≡ false
 
-name_in_range : (p : Pos) (text : List ℕ) (b : Bool) → cond b (IsToken (Single p (Name text))) NoWord ≡ OutOfRange → ⊥
+name_in_range : (p : Pos) (text : List ℕ) (b : Bool) → cond b (IsToken (Atomic p (Symbol text))) NoWord ≡ OutOfRange → ⊥
 name_in_range p text true e = cc
 name_in_range p text false e = cc
 
@@ -185,7 +185,7 @@ other_out : (p : Pos) (text : List ℕ) (o : Option ℤ) → number_of text ≡ 
 other_out p text None e h = absurd (name_in_range p text (is_name text) h)
 other_out p text (Some z) e h = at (in_range z) refl h
   where
-    at : (b : Bool) → in_range z ≡ b → cond b (IsToken (Single p (Integer z))) OutOfRange ≡ OutOfRange → Out text
+    at : (b : Bool) → in_range z ≡ b → cond b (IsToken (Atomic p (Integer z))) OutOfRange ≡ OutOfRange → Out text
     at true r f = absurd (cc)
     at false r f = record { value = z; is_number = number_written text z e; out = r }
 
@@ -194,8 +194,8 @@ out_written p text h =
     at (bytes_eq text (codes ".")) (bytes_eq text (codes "#t")) (bytes_eq text (codes "#f")) h
   where
     at : (d y n : Bool)
-        → cond d (IsToken (Dot p)) (cond y (IsToken (Single p (Boolean true)))
-        (cond n (IsToken (Single p (Boolean false))) (number_or_name p text (number_of text)))) ≡ OutOfRange
+        → cond d (IsToken (Dot p)) (cond y (IsToken (Atomic p (Boolean true)))
+        (cond n (IsToken (Atomic p (Boolean false))) (number_or_name p text (number_of text)))) ≡ OutOfRange
         → Out text
     at true y n e = absurd (cc)
     at false true n e = absurd (cc)

@@ -1,21 +1,22 @@
 -- Data that were read may stand in a text, so that what is printed of them reads as the same data.
 use Rattle.std.proofs.Common.{ℕ, zero, suc, List, [], ◌∷◌, refl, sym, subst}
 use Rattle.scheme_base.specs.declared.pos.Pos.{Pos}
-use Rattle.datum_form.specs.Data.{Datum, Items, pair, mark_name, datum_of, datum_of_rest, items_of, data_of}
-use Rattle.datum_form.specs.Data.Datum.{Single, Chain, Dotted, Row}
+use Rattle.datum_form.specs.Data.{Datum, Datum as datum, Items, pair, mark_name, datum_of, datum_of_rest, items_of, data_of}
 use Rattle.datum_form.specs.Data.Items.{none, item}
 use Rattle.datum_form.specs.Grammar.{IsTokens}
 use Rattle.datum_form.specs.Grammar.IsTokens.{ended, white, comment, token}
-use Rattle.datum_form.specs.Syntax.{Mark, Token, Syntax, Rest, Elements, written, written_rest, written_elements, written_all, Within, WithinRest, WithinElements, WithinAll}
-use Rattle.datum_form.specs.Syntax.Atom.{Name}
-use Rattle.datum_form.specs.Syntax.Mark.{Quote, Quasiquote, Unquote, Splice}
-use Rattle.datum_form.specs.Syntax.Token.{Close}
-use Rattle.datum_form.specs.Syntax.Syntax.{Leaf, Marked, Empty, Listed, Vector}
+use Rattle.datum_form.specs.declared.token.Mark.{Mark}
+use Rattle.datum_form.specs.declared.token.Token.{Token}
+use Rattle.datum_form.specs.Syntax.{Syntax, Rest, Elements, written, written_rest, written_elements, written_all, Within, WithinRest, WithinElements, WithinAll}
+use Rattle.datum_form.specs.declared.token.Atom.TheVariants.{Symbol}
+use Rattle.datum_form.specs.declared.token.Mark.TheVariants.{Quote, Quasiquote, Unquote, Splice}
+use Rattle.datum_form.specs.declared.token.Token.TheVariants.{Close}
+use Rattle.datum_form.specs.Syntax.Syntax.{Leaf, Marked, Nil, Listed, Vector}
 use Rattle.datum_form.specs.Syntax.Rest.{End, More, Tail}
 use Rattle.datum_form.specs.Syntax.Elements.{Last, Further}
-use Rattle.datum_form.proofs.Printed.{ValidAtom, ValidToken, token_valid}
+use Rattle.datum_form.proofs.AtomsPrintedAsTokens.{ValidAtom, ValidToken, token_valid}
 use Rattle.datum_reader.specs.Answer.{max_depth, Reads, ReadsAgain}
-use Rattle.datum_reader.proofs.Spelled.{Valid, ValidAll, lines_spelled}
+use Rattle.datum_reader.proofs.ValidDataReadBack.{Valid, ValidAll, lines_spelled}
 
 -- All tokens of a text are valid
 
@@ -36,13 +37,13 @@ closed q ts h = h.1
 
 mutual
   deeper : (d : Datum) (n : ℕ) → Valid n d → Valid (suc n) d
-  deeper (Single p a) n h = h
-  deeper (Chain p is) zero h = absurd h
-  deeper (Chain p is) (suc n) h = deeper_all is n h
-  deeper (Dotted p is d) zero h = absurd h
-  deeper (Dotted p is d) (suc n) h = (h.0, h.1, deeper_all is n h.2, deeper d n h.3)
-  deeper (Row p is) zero h = absurd h
-  deeper (Row p is) (suc n) h = deeper_all is n h
+  deeper (datum.Atomic p a) n h = h
+  deeper (datum.List p is) zero h = absurd h
+  deeper (datum.List p is) (suc n) h = deeper_all is n h
+  deeper (datum.Dotted p is d) zero h = absurd h
+  deeper (datum.Dotted p is d) (suc n) h = (h.0, h.1, deeper_all is n h.2, deeper d n h.3)
+  deeper (datum.Vector p is) zero h = absurd h
+  deeper (datum.Vector p is) (suc n) h = deeper_all is n h
 
   deeper_all : (is : Items) (n : ℕ) → ValidAll n is → ValidAll (suc n) is
   deeper_all none n h = tt
@@ -51,30 +52,30 @@ mutual
 -- A first item before a list, or before a tail
 
 abbrev IsList : Datum → Type 0
-IsList (Single p a) = ⊥
-IsList (Chain p is) = Unit {0}
-IsList (Dotted p is d) = Unit {0}
-IsList (Row p is) = ⊥
+IsList (datum.Atomic p a) = ⊥
+IsList (datum.List p is) = Unit {0}
+IsList (datum.Dotted p is d) = Unit {0}
+IsList (datum.Vector p is) = ⊥
 
 pair_list : (p : Pos) (d e : Datum) (n : ℕ) → IsList e → Valid n d → Valid (suc n) e → Valid (suc n) (pair p d e)
-pair_list p d (Single q a) n l h k = absurd l
-pair_list p d (Chain q is) n l h k = (h, k)
-pair_list p d (Dotted q is t) n l h k = (tt, k.1, (h, k.2), k.3)
-pair_list p d (Row q is) n l h k = absurd l
+pair_list p d (datum.Atomic q a) n l h k = absurd l
+pair_list p d (datum.List q is) n l h k = (h, k)
+pair_list p d (datum.Dotted q is t) n l h k = (tt, k.1, (h, k.2), k.3)
+pair_list p d (datum.Vector q is) n l h k = absurd l
 
 pair_tail : (p : Pos) (d e : Datum) (n : ℕ) → Valid n d → Valid n e → Valid (suc n) (pair p d e)
-pair_tail p d (Single q a) n h k = (tt, tt, (h, tt), k)
-pair_tail p d (Row q is) n h k = (tt, tt, (h, tt), k)
-pair_tail p d (Chain q is) n h k = pair_list p d (Chain q is) n tt h (deeper (Chain q is) n k)
-pair_tail p d (Dotted q is t) n h k = pair_list p d (Dotted q is t) n tt h (deeper (Dotted q is t) n k)
+pair_tail p d (datum.Atomic q a) n h k = (tt, tt, (h, tt), k)
+pair_tail p d (datum.Vector q is) n h k = (tt, tt, (h, tt), k)
+pair_tail p d (datum.List q is) n h k = pair_list p d (datum.List q is) n tt h (deeper (datum.List q is) n k)
+pair_tail p d (datum.Dotted q is t) n h k = pair_list p d (datum.Dotted q is t) n tt h (deeper (datum.Dotted q is t) n k)
 
 pair_is_list : (p : Pos) (d e : Datum) → IsList (pair p d e)
-pair_is_list p d (Single q a) = tt
-pair_is_list p d (Chain q is) = tt
-pair_is_list p d (Dotted q is t) = tt
-pair_is_list p d (Row q is) = tt
+pair_is_list p d (datum.Atomic q a) = tt
+pair_is_list p d (datum.List q is) = tt
+pair_is_list p d (datum.Dotted q is t) = tt
+pair_is_list p d (datum.Vector q is) = tt
 
-mark_valid : (m : Mark) → ValidAtom (Name (mark_name m))
+mark_valid : (m : Mark) → ValidAtom (Symbol (mark_name m))
 mark_valid Quote = (refl, (refl, (refl, (refl, (refl, (refl, tt))))), refl)
 mark_valid Quasiquote = (refl, (refl, (refl, (refl, (refl, (refl, (refl, (refl, (refl, (refl, (refl, tt)))))))))), refl)
 mark_valid Unquote = (refl, (refl, (refl, (refl, (refl, (refl, (refl, (refl, tt))))))), refl)
@@ -106,8 +107,8 @@ mutual
   tree_valid (Marked p m s) (suc n) ts w h =
       let r = tree_valid s n ts w h.1 in
       record { datum = (mark_valid m, (r.datum, tt)); after = r.after }
-  tree_valid (Empty p q) zero ts w h = absurd w
-  tree_valid (Empty p q) (suc n) ts w h = record { datum = tt; after = closed q ts h.1 }
+  tree_valid (Nil p q) zero ts w h = absurd w
+  tree_valid (Nil p q) (suc n) ts w h = record { datum = tt; after = closed q ts h.1 }
   tree_valid (Listed p s r q) zero ts w h = absurd w
   tree_valid (Listed p s r q) (suc n) ts w h =
       let a = tree_valid s n (written_rest r (Close q ∷ ts)) w.0 h.1 in

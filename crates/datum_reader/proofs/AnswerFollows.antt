@@ -3,7 +3,8 @@ use Rattle.std.proofs.Common.{◌≡◌, ℕ, ◌≤◌, List as Seq, [], ◌∷
 use Rattle.scheme_base.specs.declared.pos.Pos.{Pos}
 use Rattle.datum_form.specs.declared.datums.Datums.{Datums}
 use Rattle.datum_form.specs.Data.{Items, data_of}
-use Rattle.datum_form.specs.Syntax.{Token, Syntax}
+use Rattle.datum_form.specs.declared.token.Token.{Token}
+use Rattle.datum_form.specs.Syntax.{Syntax}
 use Rattle.datum_form.specs.Text.{Lexed, lexed}
 use Rattle.datum_form.specs.Text.Ending.{Clean}
 use Rattle.datum_reader.specs.declared.error.ReadErr.{ReadErr}
@@ -15,7 +16,7 @@ use Rattle.datum_reader.specs.Lexing.{lexed_at, token_then, ends}
 use Rattle.datum_reader.specs.Machine.{Frame, Run, step, run, start}
 use Rattle.datum_reader.specs.Machine.Run.{On, Stray as StrayRun, Deep as DeepRun}
 use Rattle.datum_reader.specs.Reading.{IsAt, IsReading, Finishes}
-use Rattle.datum_reader.proofs.WholeTrees.{text_run}
+use Rattle.datum_reader.proofs.WholeTreesAreRead.{text_run}
 use Rattle.datum_reader.proofs.OneAnswer.{scanned, told, short_told, answered, data_told, some_answer, none_or_some, some_same, same_data, same_fault, data_or_fault}
 
 -- what is told of a reading and what is left

@@ -6,19 +6,21 @@ use Rattle.std.specs.Str.{str_to_ascii_lowercase}
 use Rattle.scheme_base.specs.declared.pos.Pos.{Pos}
 use Rattle.datum_form.specs.Grammar.{Undelimited, Delimited, IsToken, NumberOut, NeverEnds}
 use Rattle.datum_form.specs.Grammar.IsToken.{opens, opens_vector, closes, quote, quasiquote, splice, unquote, string, character, word}
-use Rattle.datum_form.specs.Syntax.{Token}
-use Rattle.datum_form.specs.Syntax.Atom.{Text}
-use Rattle.datum_form.specs.Syntax.Mark.{Quote, Quasiquote, Unquote, Splice}
-use Rattle.datum_form.specs.Syntax.Token.{Open, OpenVector, Close, Marking, Single}
-use Rattle.datum_form.specs.Text.{Piece, Quoted, quoted, run_length, word_piece, string_piece, character_piece, run_piece, mark_piece, token_piece}
-use Rattle.datum_form.specs.Text.Piece.{Found, BadToken, BadNumber, OpenText}
+use Rattle.datum_form.specs.declared.token.Token.{Token}
+use Rattle.datum_form.specs.declared.token.Atom.TheVariants.{String}
+use Rattle.datum_form.specs.declared.token.Mark.TheVariants.{Quote, Quasiquote, Unquote, Splice}
+use Rattle.datum_form.specs.declared.token.Token.TheVariants.{Open, OpenVector, Close, Marking, Atomic}
+use Rattle.datum_form.specs.declared.piece.Piece.{Piece}
+use Rattle.datum_form.specs.Text.{Quoted, quoted, run_length, word_piece, string_piece, character_piece, run_piece, mark_piece, token_piece}
+use Rattle.datum_form.specs.declared.piece.Piece.TheVariants.{Found, BadToken, BadNumber, OpenString}
 use Rattle.datum_form.specs.Text.Quoted.{Closed, BadEscape, NeverClosed}
-use Rattle.datum_form.specs.Words.{Word, begins_with, small_word, character_word}
-use Rattle.datum_form.specs.Words.Word.{IsToken as Is, OutOfRange, NoWord}
-use Rattle.datum_form.proofs.Numerals.{begins_one, begins_two}
-use Rattle.datum_form.proofs.Pieces.{run_of, run_length-append}
-use Rattle.datum_form.proofs.Spelling.{word_written, out_written}
-use Rattle.datum_form.proofs.Strings.{character_written, character_in_range, string_written, closed}
+use Rattle.datum_form.specs.declared.piece.Word.{Word}
+use Rattle.datum_form.specs.Words.{begins_with, small_word, character_word}
+use Rattle.datum_form.specs.declared.piece.Word.TheVariants.{IsToken as Is, OutOfRange, NoWord}
+use Rattle.datum_form.proofs.NumbersAsWritten.{begins_one, begins_two}
+use Rattle.datum_form.proofs.TokensAsWritten.{run_of, run_length-append}
+use Rattle.datum_form.proofs.WordsAsWritten.{word_written, out_written}
+use Rattle.datum_form.proofs.StringsAsWritten.{character_written, character_in_range, string_written, closed}
 
 -- a text begins with this token, which has so many bytes
 pub record Front (p : Pos) (text : List ℕ) (t : Token) (n : ℕ) : Type 0 where
@@ -32,7 +34,7 @@ pub record Front (p : Pos) (text : List ℕ) (t : Token) (n : ℕ) : Type 0 wher
 pub data Tells : Pos → List ℕ → Piece → Type 0 where
   found : (p : Pos) (text : List ℕ) (t : Token) (n : ℕ) → Front p text t n → Tells p text (Found t n)
   out : (p : Pos) (text : List ℕ) → NumberOut text → Tells p text BadNumber
-  unclosed : (p : Pos) (text : List ℕ) → NeverEnds text → Tells p text OpenText
+  unclosed : (p : Pos) (text : List ℕ) → NeverEnds text → Tells p text OpenString
   bad : (p : Pos) (text : List ℕ) → Tells p text BadToken
 
 front : (p : Pos) (text bytes after : List ℕ) (t : Token) (n : ℕ) → text ≡ bytes ++ after → n ≡ length bytes
@@ -112,7 +114,7 @@ tells_character p (b ∷ rest) =
 tells_string : (p : Pos) (rest : List ℕ) (q : Quoted) → quoted false rest ≡ q → Tells p (34 ∷ rest) (string_piece p q)
 tells_string p rest (Closed bytes k) h =
     let s = string_written rest bytes k h in
-    front p (34 ∷ rest) (34 ∷ (s.body ++ 34 ∷ [])) s.rest (Single p (Text bytes)) (k + 1)
+    front p (34 ∷ rest) (34 ∷ (s.body ++ 34 ∷ [])) s.rest (Atomic p (String bytes)) (k + 1)
     (ap (λ l. 34 ∷ l) (s.whole ∙ sym (append_assoc s.body (34 ∷ []) s.rest)))
     (omega (arith, s.count, length-append s.body (34 ∷ []))) (string p s.rest s.body bytes s.has)
 tells_string p rest BadEscape h = bad p (34 ∷ rest)

@@ -4,18 +4,20 @@ use Rattle.std.specs.Prelude.{not, nat_eq, codes, ◌==◌, ◌||◌, ◌&&◌}
 use Rattle.std.specs.Char.{is_ascii_whitespace}
 use Rattle.scheme_base.specs.declared.pos.Pos.{Pos}
 use Rattle.scheme_base.specs.Positions.{is_line_end, after_byte, position_after}
-use Rattle.datum_form.specs.Syntax.{Token}
-use Rattle.datum_form.specs.Syntax.Mark.{Quote, Quasiquote, Unquote, Splice}
-use Rattle.datum_form.specs.Syntax.Token.{Open, OpenVector, Close, Marking}
-use Rattle.datum_form.specs.Text.{Piece, Quoted, is_delimiter, run_length, line_length, word_piece, string_piece, character_piece, run_piece, mark_piece, token_piece, piece, piece_length, quoted, before, lexed_after}
-use Rattle.datum_form.specs.Text.Piece.{Blank, Found, BadToken, BadNumber, OpenText}
+use Rattle.datum_form.specs.declared.token.Token.{Token}
+use Rattle.datum_form.specs.declared.token.Mark.TheVariants.{Quote, Quasiquote, Unquote, Splice}
+use Rattle.datum_form.specs.declared.token.Token.TheVariants.{Open, OpenVector, Close, Marking}
+use Rattle.datum_form.specs.declared.piece.Piece.{Piece}
+use Rattle.datum_form.specs.Text.{Quoted, is_delimiter, run_length, line_length, word_piece, string_piece, character_piece, run_piece, mark_piece, token_piece, piece, piece_length, quoted, before, lexed_after}
+use Rattle.datum_form.specs.declared.piece.Piece.TheVariants.{Blank, Found, BadToken, BadNumber, OpenString}
 use Rattle.datum_form.specs.Text.Quoted.{Closed, BadEscape, NeverClosed}
 use Rattle.datum_form.specs.Text.Ending.{Clean, BadAt, RangeAt, OpenAt}
-use Rattle.datum_form.specs.Words.{Word, begins_with, small_word, character_word}
-use Rattle.datum_form.specs.Words.Word.{IsToken, OutOfRange, NoWord}
+use Rattle.datum_form.specs.declared.piece.Word.{Word}
+use Rattle.datum_form.specs.Words.{begins_with, small_word, character_word}
+use Rattle.datum_form.specs.declared.piece.Word.TheVariants.{IsToken, OutOfRange, NoWord}
 use Rattle.std.specs.Str.{str_to_ascii_lowercase}
 use Rattle.datum_reader.specs.Lexing.{token_then, ends}
-use Rattle.datum_form.proofs.Pieces.{length_while-step}
+use Rattle.datum_form.proofs.TokensAsWritten.{length_while-step}
 
 -- The bytes of a piece are passed over
 
@@ -156,10 +158,10 @@ pub at_bad_number : (p : Pos) (text : List ℕ) → 0 < length text → piece p 
 at_bad_number p [] some e = absurd (omega arith)
 at_bad_number p (b ∷ bytes) some e = at_piece p b bytes BadNumber e
 
-pub at_open_text : (p : Pos) (text : List ℕ) → 0 < length text → piece p text ≡ OpenText
+pub at_open_string : (p : Pos) (text : List ℕ) → 0 < length text → piece p text ≡ OpenString
     → lexed_after 0 p text ≡ ends (OpenAt p)
-at_open_text p [] some e = absurd (omega arith)
-at_open_text p (b ∷ bytes) some e = at_piece p b bytes OpenText e
+at_open_string p [] some e = absurd (omega arith)
+at_open_string p (b ∷ bytes) some e = at_piece p b bytes OpenString e
 
 pub at_end : (p : Pos) (text : List ℕ) → length text ≡ 0 → lexed_after 0 p text ≡ ends Clean
 at_end p [] e = refl

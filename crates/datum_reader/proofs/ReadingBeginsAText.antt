@@ -3,14 +3,15 @@
 use Rattle.std.proofs.Common.{◌≡◌, ℕ, zero, suc, Bool, true, false, List, [], ◌∷◌, ◌++◌, refl, sym, ap, subst, ◌∙◌, append_assoc}
 use Rattle.std.proofs.lemmas.List.{append-nil}
 use Rattle.scheme_base.specs.declared.pos.Pos.{Pos}
-use Rattle.datum_form.specs.Syntax.{Token, Syntax, Rest, Elements, written, written_rest, written_elements, written_all, Within, WithinRest, WithinElements, WithinAll, Begins}
-use Rattle.datum_form.specs.Syntax.Token.{Open, OpenVector, Close, Dot, Marking, Single}
-use Rattle.datum_form.specs.Syntax.Syntax.{Leaf, Marked, Empty, Listed, Vector}
-use Rattle.datum_form.specs.Syntax.Atom.{Boolean}
+use Rattle.datum_form.specs.declared.token.Token.{Token}
+use Rattle.datum_form.specs.Syntax.{Syntax, Rest, Elements, written, written_rest, written_elements, written_all, Within, WithinRest, WithinElements, WithinAll, Begins}
+use Rattle.datum_form.specs.declared.token.Token.TheVariants.{Open, OpenVector, Close, Dot, Marking, Atomic}
+use Rattle.datum_form.specs.Syntax.Syntax.{Leaf, Marked, Nil, Listed, Vector}
+use Rattle.datum_form.specs.declared.token.Atom.TheVariants.{Boolean}
 use Rattle.datum_form.specs.Syntax.Rest.{End, More, Tail}
 use Rattle.datum_form.specs.Syntax.Elements.{Last, Further}
 use Rattle.datum_reader.specs.Machine.{Frame, Run, rest_of, elements_of, room, give, in_room, open_one, dot, shut, step, run, start}
-use Rattle.datum_reader.specs.Machine.Frame.{Opened, Listing, Dotted, Tailed, Rowing, Waiting}
+use Rattle.datum_reader.specs.Machine.Frame.{Opened, Listing, Dotted, Tailed, InVector, Waiting}
 use Rattle.datum_reader.specs.Machine.Run.{On, Stray, Deep}
 
 -- Tokens of what is open
@@ -20,7 +21,7 @@ frame_written (Opened p) ts = Open p ∷ ts
 frame_written (Listing p a is) ts = Open p ∷ written a (written_all is ts)
 frame_written (Dotted p a is d) ts = Open p ∷ written a (written_all is (Dot d ∷ ts))
 frame_written (Tailed p a is d t) ts = Open p ∷ written a (written_all is (Dot d ∷ written t ts))
-frame_written (Rowing p is) ts = OpenVector p ∷ written_all is ts
+frame_written (InVector p is) ts = OpenVector p ∷ written_all is ts
 frame_written (Waiting p m) ts = Marking p m ∷ ts
 
 abbrev pub frames_written : List Frame → List Token → List Token
@@ -34,7 +35,7 @@ FrameWithin m (Opened p) = Unit {0}
 FrameWithin m (Listing p a is) = Within m a × WithinAll m is
 FrameWithin m (Dotted p a is d) = Within m a × WithinAll m is
 FrameWithin m (Tailed p a is d t) = Within m a × WithinAll m is × Within m t
-FrameWithin m (Rowing p is) = WithinAll m is
+FrameWithin m (InVector p is) = WithinAll m is
 FrameWithin m (Waiting p k) = Unit {0}
 
 abbrev pub Fits : ℕ → ℕ → List Frame → Type 0
@@ -113,7 +114,7 @@ given (Listing p a is ∷ fs) n m tops s ts free h tops_within fits shows =
 given (Dotted p a is d ∷ fs) n m tops s ts free h tops_within fits shows =
     record { shows = shows; within = tops_within; fits = ((fits.0.0, fits.0.1, h), fits.1, fits.2) }
 given (Tailed p a is d t ∷ fs) n m tops s ts free h tops_within fits shows = absurd (apart free)
-given (Rowing p is ∷ fs) n m tops s ts free h tops_within fits shows =
+given (InVector p is ∷ fs) n m tops s ts free h tops_within fits shows =
     record {
       shows = λ us. shows us ∙ ap (λ vs. shown fs tops (OpenVector p ∷ vs)) (sym (written_all-append is s us));
       within = tops_within;
@@ -150,7 +151,7 @@ dotted [] n m tops ts q tops_within fits shows = tt
 dotted (Opened p ∷ fs) n m tops ts q tops_within fits shows = tt
 dotted (Dotted p a is d ∷ fs) n m tops ts q tops_within fits shows = tt
 dotted (Tailed p a is d t ∷ fs) n m tops ts q tops_within fits shows = tt
-dotted (Rowing p is ∷ fs) n m tops ts q tops_within fits shows = tt
+dotted (InVector p is ∷ fs) n m tops ts q tops_within fits shows = tt
 dotted (Waiting p k ∷ fs) n m tops ts q tops_within fits shows = tt
 
 shut_good : (fs : List Frame) (n m : ℕ) (tops : List Syntax) (ts : List Token) (q : Pos)
@@ -158,7 +159,7 @@ shut_good : (fs : List Frame) (n m : ℕ) (tops : List Syntax) (ts : List Token)
     → GoodRun n ts (shut m fs tops q)
 shut_good [] n m tops ts q tops_within fits shows = tt
 shut_good (Opened p ∷ fs) n m tops ts q tops_within fits shows =
-    given fs n (suc m) tops (Empty p q) ts fits.1 tt tops_within fits.2 shows
+    given fs n (suc m) tops (Nil p q) ts fits.1 tt tops_within fits.2 shows
 shut_good (Listing p a is ∷ fs) n m tops ts q tops_within fits shows =
     given fs n (suc m) tops (Listed p a (rest_of is End) q) ts fits.1
     (fits.0.0, within_rest_of is End m fits.0.1 tt) tops_within fits.2
@@ -170,7 +171,7 @@ shut_good (Tailed p a is d t ∷ fs) n m tops ts q tops_within fits shows =
     (λ us.
     shows us
     ∙ ap (λ vs. shown fs tops (Open p ∷ written a vs)) (sym (written_rest_of is (Tail d t) (Close q ∷ us))))
-shut_good (Rowing p is ∷ fs) n m tops ts q tops_within fits shows =
+shut_good (InVector p is ∷ fs) n m tops ts q tops_within fits shows =
     given fs n (suc m) tops (Vector p (elements_of is Last) q) ts fits.1 (within_elements_of is Last m fits.0 tt)
     tops_within fits.2
     (λ us. shows us ∙ ap (λ vs. shown fs tops (OpenVector p ∷ vs)) (sym (written_elements_of is Last (Close q ∷ us))))
@@ -184,9 +185,9 @@ step_good (Open p) n m fs tops ts good =
     opened n m (Opened p) fs tops (ts ++ Open p ∷ []) p free (λ k. tt) good.within good.fits
     (longer n m fs tops ts (Open p) good))
 step_good (OpenVector p) n m fs tops ts good =
-    entered (room fs) n (ts ++ OpenVector p ∷ []) p (open_one m (Rowing p []) fs tops p)
+    entered (room fs) n (ts ++ OpenVector p ∷ []) p (open_one m (InVector p []) fs tops p)
     (λ free.
-    opened n m (Rowing p []) fs tops (ts ++ OpenVector p ∷ []) p free (λ k. tt) good.within good.fits
+    opened n m (InVector p []) fs tops (ts ++ OpenVector p ∷ []) p free (λ k. tt) good.within good.fits
     (longer n m fs tops ts (OpenVector p) good))
 step_good (Close q) n m fs tops ts good =
     shut_good fs n m tops (ts ++ Close q ∷ []) q good.within good.fits (longer n m fs tops ts (Close q) good)
@@ -197,11 +198,11 @@ step_good (Marking p k) n m fs tops ts good =
     (λ free.
     opened n m (Waiting p k) fs tops (ts ++ Marking p k ∷ []) p free (λ j. tt) good.within good.fits
     (longer n m fs tops ts (Marking p k) good))
-step_good (Single p a) n m fs tops ts good =
-    entered (room fs) n (ts ++ Single p a ∷ []) p (give m fs tops (Leaf p a))
+step_good (Atomic p a) n m fs tops ts good =
+    entered (room fs) n (ts ++ Atomic p a ∷ []) p (give m fs tops (Leaf p a))
     (λ free.
-    given fs n m tops (Leaf p a) (ts ++ Single p a ∷ []) free tt good.within good.fits
-    (longer n m fs tops ts (Single p a) good))
+    given fs n m tops (Leaf p a) (ts ++ Atomic p a ∷ []) free tt good.within good.fits
+    (longer n m fs tops ts (Atomic p a) good))
 
 -- Many steps
 
@@ -263,8 +264,8 @@ finish (Dotted p a is d ∷ fs) n m tops s free h tops_within fits =
     (finish fs n (suc m) tops (Listed p a (rest_of is (Tail d s)) here) fits.1
     (fits.0.0, within_rest_of is (Tail d s) m fits.0.1 h) tops_within fits.2)
 finish (Tailed p a is d t ∷ fs) n m tops s free h tops_within fits = absurd (apart free)
-finish (Rowing p is ∷ fs) n m tops s free h tops_within fits =
-    close_with n fs (Rowing p is ∷ fs) tops (written (Vector p (elements_of is (Further s Last)) here)) (written s)
+finish (InVector p is ∷ fs) n m tops s free h tops_within fits =
+    close_with n fs (InVector p is ∷ fs) tops (written (Vector p (elements_of is (Further s Last)) here)) (written s)
     (Close here)
     (λ us.
     ap (λ vs. shown fs tops (OpenVector p ∷ vs)) (sym (written_elements_of is (Further s Last) (Close here ∷ us))))
@@ -278,7 +279,7 @@ finish (Waiting p k ∷ fs) n m tops s free h tops_within fits =
 close_all : (fs : List Frame) (n m : ℕ) (tops : List Syntax) (b : Bool) → room fs ≡ b → WithinAll n tops
     → Fits n m fs → Closed n fs tops (λ us. us)
 close_all fs n m tops true free tops_within fits =
-    close_with n fs fs tops (written (Leaf here (Boolean false))) (λ us. us) (Single here (Boolean false))
+    close_with n fs fs tops (written (Leaf here (Boolean false))) (λ us. us) (Atomic here (Boolean false))
     (λ us. refl) (finish fs n m tops (Leaf here (Boolean false)) free tt tops_within fits)
 close_all (Tailed p a is d t ∷ fs) n m tops false full tops_within fits =
     close_with n fs (Tailed p a is d t ∷ fs) tops (written (Listed p a (rest_of is (Tail d t)) here)) (λ us. us)
@@ -290,7 +291,7 @@ close_all [] n m tops false full tops_within fits = absurd (apart (sym full))
 close_all (Opened p ∷ fs) n m tops false full tops_within fits = absurd (apart (sym full))
 close_all (Listing p a is ∷ fs) n m tops false full tops_within fits = absurd (apart (sym full))
 close_all (Dotted p a is d ∷ fs) n m tops false full tops_within fits = absurd (apart (sym full))
-close_all (Rowing p is ∷ fs) n m tops false full tops_within fits = absurd (apart (sym full))
+close_all (InVector p is ∷ fs) n m tops false full tops_within fits = absurd (apart (sym full))
 close_all (Waiting p k ∷ fs) n m tops false full tops_within fits = absurd (apart (sym full))
 
 pub good_begins : (n m : ℕ) (fs : List Frame) (tops : List Syntax) (ts : List Token) → Good n ts m fs tops

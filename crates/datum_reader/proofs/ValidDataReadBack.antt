@@ -3,32 +3,32 @@ use Rattle.std.proofs.Common.{◌≡◌, ℕ, zero, suc, List, [], ◌∷◌, �
 use Rattle.std.specs.Prelude.{codes}
 use Rattle.scheme_base.specs.declared.pos.Pos.{Pos}
 use Rattle.scheme_base.specs.Positions.{position_after, after_byte}
-use Rattle.datum_form.specs.Data.{Datum, Items, datum_of, data_of, nowhere, unplaced, unplaced_all}
-use Rattle.datum_form.specs.Data.Datum.{Single, Chain, Dotted as DottedData, Row}
+use Rattle.datum_form.specs.Data.{Datum, Datum as datum, Items, datum_of, data_of, nowhere, unplaced, unplaced_all}
 use Rattle.datum_form.specs.Data.Items.{none, item}
 use Rattle.datum_form.specs.Grammar.{Delimited, IsTokens}
 use Rattle.datum_form.specs.Grammar.IsToken.{opens, opens_vector, closes, word}
 use Rattle.datum_form.specs.Grammar.IsTokens.{ended, white, token}
 use Rattle.datum_form.specs.Grammar.IsWord.{dot}
 use Rattle.datum_form.specs.Print.{atom_text, text_of, items_text, more_text, lines_of}
-use Rattle.datum_form.specs.Syntax.{Token, Syntax, written, written_all, Within, WithinAll}
-use Rattle.datum_form.specs.Syntax.Syntax.{Leaf, Empty, Listed, Vector}
+use Rattle.datum_form.specs.declared.token.Token.{Token}
+use Rattle.datum_form.specs.Syntax.{Syntax, written, written_all, Within, WithinAll}
+use Rattle.datum_form.specs.Syntax.Syntax.{Leaf, Nil, Listed, Vector}
 use Rattle.datum_form.specs.Syntax.Rest.{End, Tail}
 use Rattle.datum_form.specs.Syntax.Elements.{Last}
-use Rattle.datum_form.specs.Syntax.Token.{Open, OpenVector, Close, Dot, Single as SingleToken}
-use Rattle.datum_form.proofs.Printed.{ValidAtom, atom_token}
+use Rattle.datum_form.specs.declared.token.Token.TheVariants.{Open, OpenVector, Close, Dot, Atomic}
+use Rattle.datum_form.proofs.AtomsPrintedAsTokens.{ValidAtom, atom_token}
 use Rattle.datum_reader.specs.Machine.{rest_of, elements_of}
 use Rattle.datum_reader.specs.Nodes.{tailed}
-use Rattle.datum_reader.proofs.Builds.{list_data, dotted_data, vector_data}
-use Rattle.datum_reader.proofs.Good.{written_rest_of, written_elements_of, within_rest_of, within_elements_of}
+use Rattle.datum_reader.proofs.AddedNodeStands.{list_data, dotted_data, vector_data}
+use Rattle.datum_reader.proofs.ReadingBeginsAText.{written_rest_of, written_elements_of, within_rest_of, within_elements_of}
 
 -- Data that may stand in a text, nested at most n deep
 
 abbrev pub NoList : Datum → Type 0
-NoList (Single p a) = Unit {0}
-NoList (Chain p is) = ⊥
-NoList (DottedData p is d) = ⊥
-NoList (Row p is) = Unit {0}
+NoList (datum.Atomic p a) = Unit {0}
+NoList (datum.List p is) = ⊥
+NoList (datum.Dotted p is d) = ⊥
+NoList (datum.Vector p is) = Unit {0}
 
 abbrev pub SomeItems : Items → Type 0
 SomeItems none = ⊥
@@ -36,13 +36,13 @@ SomeItems (item d is) = Unit {0}
 
 abbrev mutual
   pub Valid : ℕ → Datum → Type 0
-  Valid n (Single p a) = ValidAtom a
-  Valid zero (Chain p is) = ⊥
-  Valid (suc n) (Chain p is) = ValidAll n is
-  Valid zero (DottedData p is d) = ⊥
-  Valid (suc n) (DottedData p is d) = SomeItems is × NoList d × ValidAll n is × Valid n d
-  Valid zero (Row p is) = ⊥
-  Valid (suc n) (Row p is) = ValidAll n is
+  Valid n (datum.Atomic p a) = ValidAtom a
+  Valid zero (datum.List p is) = ⊥
+  Valid (suc n) (datum.List p is) = ValidAll n is
+  Valid zero (datum.Dotted p is d) = ⊥
+  Valid (suc n) (datum.Dotted p is d) = SomeItems is × NoList d × ValidAll n is × Valid n d
+  Valid zero (datum.Vector p is) = ⊥
+  Valid (suc n) (datum.Vector p is) = ValidAll n is
 
   pub ValidAll : ℕ → Items → Type 0
   ValidAll n none = Unit {0}
@@ -81,7 +81,7 @@ record SpellingAll (p : Pos) (text : List ℕ) (n : ℕ) (is : Items) : Type 0 w
 -- Lists
 
 list_tree : Pos → List Syntax → Pos → Syntax
-list_tree p [] q = Empty p q
+list_tree p [] q = Nil p q
 list_tree p (s ∷ ss) q = Listed p s (rest_of ss End) q
 
 list_written : (p q : Pos) (ss : List Syntax) (us : List Token)
@@ -95,7 +95,7 @@ unfolding list_tree
 list_within p q [] n h = tt
 list_within p q (s ∷ ss) n h = (h.0, within_rest_of ss End n h.1 tt)
 
-list_datum : (p q : Pos) (ss : List Syntax) → datum_of (list_tree p ss q) ≡ Chain p (data_of ss)
+list_datum : (p q : Pos) (ss : List Syntax) → datum_of (list_tree p ss q) ≡ datum.List p (data_of ss)
 unfolding list_tree
 list_datum p q [] = refl
 list_datum p q (s ∷ ss) = list_data p q s ss
@@ -105,64 +105,64 @@ closed : (p q r : Pos) (after : List ℕ) (us : List Token) → r ≡ position_a
     → IsTokens q (codes ")" ++ after) (Close q ∷ us)
 closed p q r after us e h = token q (codes ")") after (Close q) us (closes q after) (moved r (position_after q (codes ")")) after us e h)
 
-chain_spelled : (p r : Pos) (is : Items) (n : ℕ) → SpellingAll (after_byte p 40) (items_text is) n is
-    → Spelling p (text_of (Chain r is)) (suc n) (Chain r is)
-chain_spelled p r is n s =
+list_spelled : (p r : Pos) (is : Items) (n : ℕ) → SpellingAll (after_byte p 40) (items_text is) n is
+    → Spelling p (text_of (datum.List r is)) (suc n) (datum.List r is)
+list_spelled p r is n s =
     let inner : Pos = after_byte p 40 in
     let q : Pos = position_after inner (items_text is) in
     record {
       tree = list_tree p s.trees q;
       within = list_within p q s.trees n s.within;
-      same = ap unplaced (list_datum p q s.trees) ∙ ap (λ js. Chain nowhere js) s.same;
+      same = ap unplaced (list_datum p q s.trees) ∙ ap (λ js. datum.List nowhere js) s.same;
       spelled = λ after us d k.
-          retold p (text_of (Chain r is) ++ after) (Open p ∷ written_all s.trees (Close q ∷ us)) (written (list_tree p s.trees q) us)
+          retold p (text_of (datum.List r is) ++ after) (Open p ∷ written_all s.trees (Close q ∷ us)) (written (list_tree p s.trees q) us)
           (sym (list_written p q s.trees us))
-          (respelled p (40 ∷ (items_text is ++ (codes ")" ++ after))) (text_of (Chain r is) ++ after) (Open p ∷ written_all s.trees (Close q ∷ us))
+          (respelled p (40 ∷ (items_text is ++ (codes ")" ++ after))) (text_of (datum.List r is) ++ after) (Open p ∷ written_all s.trees (Close q ∷ us))
           (ap (λ l. 40 ∷ l) (sym (append_assoc (items_text is) (codes ")") after)))
           (token p (codes "(") (items_text is ++ (codes ")" ++ after)) (Open p) (written_all s.trees (Close q ∷ us))
           (opens p (items_text is ++ (codes ")" ++ after)))
           (s.spelled (codes ")" ++ after) (Close q ∷ us) refl
-          (closed p q (position_after p (text_of (Chain r is))) after us (position_after-append inner (items_text is) (codes ")")) k))));
+          (closed p q (position_after p (text_of (datum.List r is))) after us (position_after-append inner (items_text is) (codes ")")) k))));
     }
 
 -- Vectors
 
-row_spelled : (p r : Pos) (is : Items) (n : ℕ) → SpellingAll (after_byte (after_byte p 35) 40) (items_text is) n is
-    → Spelling p (text_of (Row r is)) (suc n) (Row r is)
-row_spelled p r is n s =
+vector_spelled : (p r : Pos) (is : Items) (n : ℕ) → SpellingAll (after_byte (after_byte p 35) 40) (items_text is) n is
+    → Spelling p (text_of (datum.Vector r is)) (suc n) (datum.Vector r is)
+vector_spelled p r is n s =
     let inner : Pos = after_byte (after_byte p 35) 40 in
     let q : Pos = position_after inner (items_text is) in
     record {
       tree = Vector p (elements_of s.trees Last) q;
       within = within_elements_of s.trees Last n s.within tt;
-      same = ap (λ js. unplaced (Row p js)) (vector_data s.trees) ∙ ap (λ js. Row nowhere js) s.same;
+      same = ap (λ js. unplaced (datum.Vector p js)) (vector_data s.trees) ∙ ap (λ js. datum.Vector nowhere js) s.same;
       spelled = λ after us d k.
-          retold p (text_of (Row r is) ++ after) (OpenVector p ∷ written_all s.trees (Close q ∷ us))
+          retold p (text_of (datum.Vector r is) ++ after) (OpenVector p ∷ written_all s.trees (Close q ∷ us))
           (written (Vector p (elements_of s.trees Last) q) us)
           (ap (λ ts. OpenVector p ∷ ts) (sym (written_elements_of s.trees Last (Close q ∷ us))))
-          (respelled p (35 ∷ 40 ∷ (items_text is ++ (codes ")" ++ after))) (text_of (Row r is) ++ after)
+          (respelled p (35 ∷ 40 ∷ (items_text is ++ (codes ")" ++ after))) (text_of (datum.Vector r is) ++ after)
           (OpenVector p ∷ written_all s.trees (Close q ∷ us))
           (ap (λ l. 35 ∷ 40 ∷ l) (sym (append_assoc (items_text is) (codes ")") after)))
           (token p (codes "#(") (items_text is ++ (codes ")" ++ after)) (OpenVector p) (written_all s.trees (Close q ∷ us))
           (opens_vector p (items_text is ++ (codes ")" ++ after)))
           (s.spelled (codes ")" ++ after) (Close q ∷ us) refl
-          (closed p q (position_after p (text_of (Row r is))) after us (position_after-append inner (items_text is) (codes ")")) k))));
+          (closed p q (position_after p (text_of (datum.Vector r is))) after us (position_after-append inner (items_text is) (codes ")")) k))));
     }
 
 -- Dotted lists
 
 tailed_plain : (p : Pos) (js : Items) (t d : Datum) → NoList d → unplaced t ≡ unplaced d
-    → tailed p js t ≡ DottedData p js t
-tailed_plain p js (Single q a) d h e = refl
-tailed_plain p js (Row q is) d h e = refl
-tailed_plain p js (Chain q is) (Single r a) h e = absurd (cc)
-tailed_plain p js (Chain q is) (Row r ks) h e = absurd (cc)
-tailed_plain p js (Chain q is) (Chain r ks) h e = absurd h
-tailed_plain p js (Chain q is) (DottedData r ks d) h e = absurd h
-tailed_plain p js (DottedData q is t) (Single r a) h e = absurd (cc)
-tailed_plain p js (DottedData q is t) (Row r ks) h e = absurd (cc)
-tailed_plain p js (DottedData q is t) (Chain r ks) h e = absurd h
-tailed_plain p js (DottedData q is t) (DottedData r ks d) h e = absurd h
+    → tailed p js t ≡ datum.Dotted p js t
+tailed_plain p js (datum.Atomic q a) d h e = refl
+tailed_plain p js (datum.Vector q is) d h e = refl
+tailed_plain p js (datum.List q is) (datum.Atomic r a) h e = absurd (cc)
+tailed_plain p js (datum.List q is) (datum.Vector r ks) h e = absurd (cc)
+tailed_plain p js (datum.List q is) (datum.List r ks) h e = absurd h
+tailed_plain p js (datum.List q is) (datum.Dotted r ks d) h e = absurd h
+tailed_plain p js (datum.Dotted q is t) (datum.Atomic r a) h e = absurd (cc)
+tailed_plain p js (datum.Dotted q is t) (datum.Vector r ks) h e = absurd (cc)
+tailed_plain p js (datum.Dotted q is t) (datum.List r ks) h e = absurd h
+tailed_plain p js (datum.Dotted q is t) (datum.Dotted r ks d) h e = absurd h
 
 -- a dot between spaces, a datum, and then a closing parenthesis
 tail_spelled : (p : Pos) (d : Datum) (n : ℕ) (after : List ℕ) (us : List Token)
@@ -186,7 +186,7 @@ tail_spelled p d n after us s k =
 dotted_spelled : (p r : Pos) (is : Items) (first : Syntax) (others : List Syntax) (d : Datum) (n : ℕ)
     → (items : SpellingAll (after_byte p 40) (items_text is) n is) → items.trees ≡ first ∷ others
     → Spelling (position_after (position_after (after_byte p 40) (items_text is)) (codes " . ")) (text_of d) n d → NoList d
-    → Spelling p (text_of (DottedData r is d)) (suc n) (DottedData r is d)
+    → Spelling p (text_of (datum.Dotted r is d)) (suc n) (datum.Dotted r is d)
 dotted_spelled p r is first others d n items e s plain =
     let inner : Pos = after_byte p 40 in
     let middle : Pos = position_after inner (items_text is) in
@@ -203,16 +203,16 @@ dotted_spelled p r is first others d n items e s plain =
       same =
           ap unplaced (dotted_data p at_dot q first s.tree others)
           ∙ (ap unplaced (tailed_plain p (data_of (first ∷ others)) (datum_of s.tree) d plain s.same)
-          ∙ (ap (λ js. DottedData nowhere js (unplaced (datum_of s.tree))) same_items
-          ∙ ap (λ t. DottedData nowhere (unplaced_all is) t) s.same));
+          ∙ (ap (λ js. datum.Dotted nowhere js (unplaced (datum_of s.tree))) same_items
+          ∙ ap (λ t. datum.Dotted nowhere (unplaced_all is) t) s.same));
       spelled = λ after us delimited k.
           let last : List ℕ = codes " . " ++ (text_of d ++ codes ")") in
           let end : List ℕ = codes " . " ++ (text_of d ++ (codes ")" ++ after)) in
           let ts : List Token = Dot at_dot ∷ written s.tree (Close q ∷ us) in
-          retold p (text_of (DottedData r is d) ++ after) (Open p ∷ written_all items.trees ts) (written tree us)
+          retold p (text_of (datum.Dotted r is d) ++ after) (Open p ∷ written_all items.trees ts) (written tree us)
           (ap (λ ss. Open p ∷ written_all ss ts) e
           ∙ ap (λ l. Open p ∷ written first l) (sym (written_rest_of others (Tail at_dot s.tree) (Close q ∷ us))))
-          (respelled p (40 ∷ (items_text is ++ end)) (text_of (DottedData r is d) ++ after) (Open p ∷ written_all items.trees ts)
+          (respelled p (40 ∷ (items_text is ++ end)) (text_of (datum.Dotted r is d) ++ after) (Open p ∷ written_all items.trees ts)
           (ap (λ l. 40 ∷ l)
           (ap (λ l. items_text is ++ (32 ∷ 46 ∷ 32 ∷ l)) (sym (append_assoc (text_of d) (codes ")") after))
           ∙ sym (append_assoc (items_text is) last after)))
@@ -220,7 +220,7 @@ dotted_spelled p r is first others d n items e s plain =
           (opens p (items_text is ++ end))
           (items.spelled end ts refl
           (tail_spelled middle d n after us s
-          (moved (position_after p (text_of (DottedData r is d))) (position_after middle last) after us
+          (moved (position_after p (text_of (datum.Dotted r is d))) (position_after middle last) after us
           (position_after-append inner (items_text is) last) k)))));
     }
 
@@ -269,20 +269,20 @@ nothing p n = record { trees = []; within = tt; same = refl; spelled = λ after 
 
 mutual
   datum_spelled : (d : Datum) (n : ℕ) (p : Pos) → Valid n d → Spelling p (text_of d) n d
-  datum_spelled (Single r a) n p h =
+  datum_spelled (datum.Atomic r a) n p h =
       record {
         tree = Leaf p a;
         within = tt;
         same = refl;
-        spelled = λ after us d k. token p (atom_text a) after (SingleToken p a) us (atom_token p a after h d) k;
+        spelled = λ after us d k. token p (atom_text a) after (Atomic p a) us (atom_token p a after h d) k;
       }
-  datum_spelled (Chain r is) zero p h = absurd h
-  datum_spelled (Chain r is) (suc n) p h = chain_spelled p r is n (items_spelled is n (after_byte p 40) h)
-  datum_spelled (Row r is) zero p h = absurd h
-  datum_spelled (Row r is) (suc n) p h = row_spelled p r is n (items_spelled is n (after_byte (after_byte p 35) 40) h)
-  datum_spelled (DottedData r is d) zero p h = absurd h
-  datum_spelled (DottedData r none d) (suc n) p h = absurd h.0
-  datum_spelled (DottedData r (item e is) d) (suc n) p h =
+  datum_spelled (datum.List r is) zero p h = absurd h
+  datum_spelled (datum.List r is) (suc n) p h = list_spelled p r is n (items_spelled is n (after_byte p 40) h)
+  datum_spelled (datum.Vector r is) zero p h = absurd h
+  datum_spelled (datum.Vector r is) (suc n) p h = vector_spelled p r is n (items_spelled is n (after_byte (after_byte p 35) 40) h)
+  datum_spelled (datum.Dotted r is d) zero p h = absurd h
+  datum_spelled (datum.Dotted r none d) (suc n) p h = absurd h.0
+  datum_spelled (datum.Dotted r (item e is) d) (suc n) p h =
       let inner : Pos = after_byte p 40 in
       let one = datum_spelled e n inner h.2.0 in
       let more = more_spelled is n (position_after inner (text_of e)) h.2.1 in
