@@ -7,9 +7,9 @@ use Rattle.std.proofs.Math.Bool.{and-true, and-false}
 use Rattle.scheme_base.specs.Constants.{Constant}
 use Rattle.core_form.specs.Valid.{and_rest, assigns, one_assigns}
 use Rattle.core_form.specs.Variables.{same_var}
-use Rattle.scheme_expand.specs.Drafts.{Name, Draft, Drafts, Local, Fresh, Top, Library, Const, Symbols, Ref, Lambda, If, Set, Call, Prim, Seq, Fix, Define, none, item}
-use Rattle.scheme_expand.specs.Numbers.{Given, At, var, named, all_named, maybe_named, numbered, all_numbered}
-use Rattle.scheme_expand.proofs.Good.{is_source, is_var, binds, assigned, one_assigned}
+use Rattle.draft_form.specs.Drafts.{Name, Draft, Drafts, Local, Fresh, Top, Library, Const, Symbols, Ref, Lambda, If, Set, Call, Prim, Seq, Fix, Define, none, item}
+use Rattle.draft_form.specs.Numbers.{Given, At, var, named, all_named, maybe_named, numbered, all_numbered}
+use Rattle.scheme_expand.proofs.GoodDrafts.{is_source, is_var, binds, assigned, one_assigned}
 
 -- a text that begins with a digit, or what comes after the digits
 abbrev pub BeginsDigit : List ℕ → Type 0

@@ -7,10 +7,10 @@ use Rattle.std.proofs.lemmas.Fmt.{decimal_injective}
 use Rattle.core_form.specs.declared.program.Var.{Var}
 use Rattle.core_form.specs.Valid.{and_rest}
 use Rattle.core_form.specs.Variables.{same_var}
-use Rattle.scheme_expand.specs.Drafts.{Name}
-use Rattle.scheme_expand.specs.Numbers.{Given, give, give_all, var, all_named, maybe_named, fresh_in}
+use Rattle.draft_form.specs.Drafts.{Name}
+use Rattle.draft_form.specs.Numbers.{Given, give, give_all, var, all_named, maybe_named, fresh_in}
 use Rattle.scheme_expand.specs.Rewriting.{variables, unnamed}
-use Rattle.scheme_expand.proofs.Good.{AreSources, AreBound}
+use Rattle.scheme_expand.proofs.GoodDrafts.{AreSources, AreBound}
 use Rattle.scheme_expand.proofs.Assigning.{named_rest}
 use Rattle.scheme_expand.proofs.Scoping.{apart, same_bytes}
 

@@ -10,12 +10,12 @@ use Rattle.core_form.specs.Valid.{IsCore}
 use Rattle.core_form.proofs.OneTree.{one_list}
 use Rattle.prelude_text.specs.Text.{library_text}
 use Rattle.scheme_expand.specs.Faults.{Fault, is_before, least_of, least}
-use Rattle.scheme_expand.specs.Drafts.{Drafts}
+use Rattle.draft_form.specs.Drafts.{Drafts}
 use Rattle.scheme_expand.specs.Inputs.{AreInputs}
 use Rattle.scheme_expand.specs.Laws.{AreOne, BindFew, IsTyped}
 use Rattle.scheme_expand.specs.Programs.{symbols_of, trees_of, literals_of, faults, drafts_with, IsNumbered, Expands, FormFault}
-use Rattle.scheme_expand.proofs.Building.{program_of}
-use Rattle.scheme_expand.proofs.Few.{all_few}
+use Rattle.draft_form.proofs.Building.{program_of}
+use Rattle.draft_form.proofs.FreshAreBound.{all_few}
 use Rattle.scheme_expand.proofs.LibraryData.{library, reads, unbroken, only}
 use Rattle.scheme_expand.proofs.Reading.{read_inputs}
 use Rattle.scheme_expand.proofs.ValidCore.{numbered_valid, program_good}

@@ -6,13 +6,13 @@ use Rattle.scheme_base.specs.declared.pos.Pos.{Pos}
 use Rattle.scheme_base.specs.declared.op.Op.{Op}
 use Rattle.scheme_base.specs.declared.op.Op.TheVariants as op
 use Rattle.scheme_base.specs.Operands.{name_of, operands_of}
-use Rattle.scheme_base.specs.Constants.{Integer as Number}
+use Rattle.scheme_base.specs.Constants.{Constant as constant}
 use Rattle.scheme_expand.proofs.OfData.{IsOfData}
 use Rattle.scheme_expand.specs.Grammar.{Reading, form, begun}
-use Rattle.scheme_expand.specs.Drafts.{Draft, Drafts, Fresh, Const, Symbols, Prim, none, item}
+use Rattle.draft_form.specs.Drafts.{Draft, Drafts, Fresh, Const, Symbols, Prim, none, item}
 use Rattle.scheme_expand.specs.Calls.{count, two, negation, fresh, references, folded, sum, difference, Comparison, Equal, Less, Greater, NotGreater, NotLess, comparison, compared, listed, Way, Sums, Differs, Compares, Lists, way, binds, bound_first, operation, at_once, negated, public_calls, operations, named_operation, library_call, integrated}
 use Rattle.scheme_expand.specs.Rewriting.{variables, unnamed, inside}
-use Rattle.scheme_expand.proofs.Good.{Good, AllGood}
+use Rattle.scheme_expand.proofs.GoodDrafts.{Good, AllGood}
 
 abbrev pub GoodList : List (List ℕ) → List Draft → Type 0
 GoodList bound [] = Unit {0}
@@ -49,14 +49,14 @@ good_folded bound p o e (t ∷ ts) n h k =
     good_folded bound p o (Prim p o (two e t)) ts n (good_two bound p o e t n h k.0) k.1
 
 good_sum : (bound : List (List ℕ)) (p : Pos) (o : Op) (n : ℕ) (ts : List Draft) → length (operands_of o) ≡ 2
-    → IsOfData (Number (pos n)) → GoodList bound ts → Good bound (sum p o n ts)
+    → IsOfData (constant.Integer (pos n)) → GoodList bound ts → Good bound (sum p o n ts)
 good_sum bound p o n [] two_ part h = part
-good_sum bound p o n (t ∷ []) two_ part h = good_two bound p o (Const p (Number (pos n))) t two_ part h.0
+good_sum bound p o n (t ∷ []) two_ part h = good_two bound p o (Const p (constant.Integer (pos n))) t two_ part h.0
 good_sum bound p o n (t ∷ u ∷ ts) two_ part h = good_folded bound p o t (u ∷ ts) two_ h.0 h.1
 
 good_difference : (bound : List (List ℕ)) (p : Pos) (t : Draft) (ts : List Draft) → Good bound t → GoodList bound ts
     → Good bound (difference p t ts)
-good_difference bound p t [] h k = good_two bound p op.Subtract (Const p (Number (pos 0))) t refl refl h
+good_difference bound p t [] h k = good_two bound p op.Subtract (Const p (constant.Integer (pos 0))) t refl refl h
 good_difference bound p t (u ∷ ts) h k = good_folded bound p op.Subtract t (u ∷ ts) refl h k
 
 good_comparison : (bound : List (List ℕ)) (p : Pos) (c : Comparison) (d e : Draft) → Good bound d → Good bound e
@@ -78,7 +78,7 @@ good_listed bound p [] h = tt
 good_listed bound p (t ∷ ts) h = good_two bound p op.Cons t (listed p ts) refl h.0 (good_listed bound p ts h.1)
 
 abbrev IsWay : Way → Type 0
-IsWay (Sums o n) = (length (operands_of o) ≡ 2) × IsOfData (Number (pos n))
+IsWay (Sums o n) = (length (operands_of o) ≡ 2) × IsOfData (constant.Integer (pos n))
 IsWay w = Unit {0}
 
 good_way : (bound : List (List ℕ)) (p : Pos) (w : Way) (ts : List Draft) → IsWay w → GoodList bound ts

@@ -8,14 +8,14 @@ use Rattle.scheme_base.specs.Constants.{Constant}
 use Rattle.core_form.specs.Valid.{and_rest as and_rest_name}
 use Rattle.scheme_expand.specs.Forms.{Word, Exp, Exps, Bindings, Body, Clauses, Cases, Steps, Template, Forms, Wrong, Value, Variable, Application, Procedure, OneArmed, TwoArmed, Assignment, Cond, Case, And, Or, Let, LetStar, Letrec, Begin, Do, Named, Quasi, no_exp, exp, no_binding, binding, broken, Of, no_clause, otherwise, value, clause, passing, no_case, others, one_of, no_step, fixed, stepped, Plain, Unquoted, Spliced, Pair, Vector, no_form, evaluated, defining}
 use Rattle.scheme_expand.specs.Grammar.{and_rest, bound_words, step_words}
-use Rattle.scheme_expand.specs.Drafts.{Name, Draft, Drafts, Local, Fresh, Top, Library, Const, Symbols, Ref, Lambda, If, Set, Call, Prim, Seq, Fix, Define, none, item, ◌then◌, parts, all_parts, changes}
+use Rattle.draft_form.specs.Drafts.{Name, Draft, Drafts, Local, Fresh, Top, Library, Const, Symbols, Ref, Lambda, If, Set, Call, Prim, Seq, Fix, Define, none, item, ◌then◌, parts, all_parts, changes}
 use Rattle.scheme_expand.specs.Calls.{count, one, two, integrated}
 use Rattle.scheme_expand.specs.Rewriting.{Side, OfLibrary, OfProgram, Scope, level, has_name, found, free, local_or, meaning, inside, within, variable, variables, unnamed, names, let_names, let_fresh, either, sequence, undefined, assignments, fix, letrec_by_set, body_scope, letrec, call_or, call_of, call, is_one_of, is_lambda, are_lambdas, is_empty, rest_name, rest_variable, lambda, results_of, core, cores, values, body_core, let_star, and_core, or_core, clauses_core, cases_core, firsts, nexts, template_core, defines, form_cores}
-use Rattle.scheme_expand.proofs.Good.{is_source, AreSources, is_var, assigned, one_assigned, IsTarget, AreWords, AreBound, IsLambda, AreLambdas, HolesFor, HasDraft, Good, AllGood}
+use Rattle.scheme_expand.proofs.GoodDrafts.{is_source, AreSources, is_var, assigned, one_assigned, IsTarget, AreWords, AreBound, IsLambda, AreLambdas, HolesFor, HasDraft, Good, AllGood}
 use Rattle.scheme_expand.proofs.GoodCalls.{GoodMaybe, good_integrated, length-unnamed}
 use Rattle.scheme_expand.proofs.Scoping.{apart, and_split, bytes_same, found_inside, found_unnamed, binds_unnamed}
-use Rattle.scheme_expand.proofs.Fine.{differs_binds}
-use Rattle.scheme_expand.proofs.Sound.{EachOfData, Differ, HasExp, Sound, AllSound, SoundBindings, SoundBody, SoundClauses, SoundCases, SoundSteps, SoundTemplate, SoundForms}
+use Rattle.scheme_expand.proofs.GoodDraftsAreValid.{differs_binds}
+use Rattle.scheme_expand.proofs.SoundForms.{EachOfData, Differ, HasExp, Sound, AllSound, SoundBindings, SoundBody, SoundClauses, SoundCases, SoundSteps, SoundTemplate, SoundForms}
 
 good_then : (bound : List (List ℕ)) (ds es : Drafts) → AllGood bound ds → AllGood bound es → AllGood bound (ds then es)
 good_then bound none es h k = k

@@ -1,26 +1,21 @@
 mod Assigning
-mod Building
 mod CoreText
 mod Distinct
 mod Examples
 mod Expansions
-mod Few
-mod Fine
-mod Good
+mod GoodDraftsAreValid
+mod GoodDrafts
 mod GoodCalls
 mod GoodCores
-mod Laying
 mod OfData
 mod Positions
 mod LibraryData
 mod LibraryFacts
 mod Reading
 mod Scoping
-mod Sound
+mod SoundForms
 mod Unbroken
 mod ValidCore
-mod Whole
-pub mod Written
-pub mod Ready
-pub mod Used
+mod ConstantsInOrder
+pub mod NumbersBehind
 mod Worked

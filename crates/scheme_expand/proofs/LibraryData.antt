@@ -2,15 +2,16 @@
 use Rattle.std.proofs.Common.{◌≡◌, ℕ, List, [], length, ◌≤◌, leb-true, refl, sym, subst, ◌∙◌, append-nil}
 use Rattle.prelude_text.specs.Text.{library_text}
 use Rattle.datum_form.specs.Data.{Items, data_of}
-use Rattle.datum_form.specs.Syntax.{Token, Syntax, IsText}
+use Rattle.datum_form.specs.declared.token.Token.{Token}
+use Rattle.datum_form.specs.Syntax.{Syntax, IsText}
 use Rattle.datum_form.specs.Text.{lexed}
 use Rattle.datum_form.specs.Text.Ending.{Clean}
 use Rattle.datum_reader.specs.Answer.{Reads, max_length, max_depth}
 use Rattle.datum_reader.specs.Machine.{Run, start, run}
 use Rattle.datum_reader.specs.Machine.Run.{On}
-use Rattle.datum_reader.proofs.Good.{GoodRun, start_good}
+use Rattle.datum_reader.proofs.ReadingBeginsAText.{GoodRun, start_good}
 use Rattle.datum_reader.proofs.OneAnswer.{same_data}
-use Rattle.datum_reader.proofs.Texts.{lexed_tokens}
+use Rattle.datum_reader.proofs.TokensFoundAreSpelled.{lexed_tokens}
 use Rattle.scheme_expand.specs.Faults.{in_forms}
 use Rattle.scheme_expand.specs.Programs.{library_forms}
 

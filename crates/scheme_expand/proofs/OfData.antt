@@ -1,11 +1,12 @@
 -- Constants of data, and what they are in a core whose characters are bytes.
-use Rattle.std.proofs.Common.{ℕ, suc, List}
-use Rattle.std.specs.Prelude.{IsTrue}
+use Rattle.std.proofs.Common.{◌≡◌, ℕ, suc, List, false, ap}
+use Rattle.std.specs.Prelude.{IsTrue, slice_get}
 use Rattle.scheme_base.specs.declared.lit.Lit.{Lit}
 use Rattle.scheme_base.specs.Integers.{in_range}
 use Rattle.scheme_base.specs.Constants.{Constant, Integer, Boolean, Character, Nil, Unspecified, Undefined, Symbol, String, Pair, Vector, Constants, IsPart, AreParts, IsConstant}
 use Rattle.scheme_base.specs.Constants.Constants.{none, item}
 use Rattle.scheme_base.specs.Literals.{Laid, LaidAll}
+use Rattle.core_form.specs.Valid.{is_undefined}
 use Rattle.scheme_expand.specs.Laws.{AreBytes}
 
 abbrev mutual
@@ -71,3 +72,17 @@ constant_held lits b i (Symbol x) j h l = b i _ l.0
 constant_held lits b i (String bytes) j h l = b i _ l.0
 constant_held lits b i (Pair a d) j h l = part_of_data lits b i (Pair a d) j h l
 constant_held lits b i (Vector cs) j h l = part_of_data lits b i (Vector cs) j h l
+
+-- a literal that is a part of others is not the undefined value
+pub not_undefined : (lits : List Lit) (i : ℕ) (c : Constant) (j : ℕ) → IsOfData c → Laid lits i c j
+    → is_undefined (slice_get lits i) ≡ false
+not_undefined lits i (Integer z) j p h = ap is_undefined h.0
+not_undefined lits i (Boolean b) j p h = ap is_undefined h.0
+not_undefined lits i (Character byte) j p h = ap is_undefined h.0
+not_undefined lits i Nil j p h = ap is_undefined h.0
+not_undefined lits i Unspecified j p h = ap is_undefined h.0
+not_undefined lits i Undefined j p h = absurd p
+not_undefined lits i (Symbol x) j p h = ap is_undefined h.0
+not_undefined lits i (String bytes) j p h = ap is_undefined h.0
+not_undefined lits i (Pair a d) j p h = ap is_undefined h.1
+not_undefined lits i (Vector cs) j p h = ap is_undefined h.1

@@ -1,24 +1,25 @@
 -- The data that a text reads as can be expanded.
 use Rattle.std.proofs.Common.{ℕ, List, [], ◌∷◌, refl, sym, subst}
 use Rattle.scheme_base.specs.declared.pos.Pos.{Pos}
-use Rattle.datum_form.specs.Data.{Datum, Items, pair, mark_name, datum_of, datum_of_rest, items_of, data_of}
-use Rattle.datum_form.specs.Data.Datum.{Single, Chain, Dotted, Row}
+use Rattle.datum_form.specs.Data.{Datum, Datum as datum, Items, pair, mark_name, datum_of, datum_of_rest, items_of, data_of}
 use Rattle.datum_form.specs.Grammar.{IsTokens, IsToken, IsWord}
 use Rattle.datum_form.specs.Grammar.IsTokens.{ended, white, comment, token}
 use Rattle.datum_form.specs.Grammar.IsToken.{opens, opens_vector, closes, quote, quasiquote, splice, unquote, string, character, word}
 use Rattle.datum_form.specs.Grammar.IsWord.{dot, true_word, false_word, number, name}
-use Rattle.datum_form.specs.Syntax.{Mark, Token, Syntax, Rest, Elements, written, written_rest, written_elements, written_all}
-use Rattle.datum_form.specs.Syntax.Mark.{Quote, Quasiquote, Unquote, Splice}
-use Rattle.datum_form.specs.Syntax.Atom.{Name}
-use Rattle.datum_form.specs.Syntax.Token.{Close, Single as Alone}
-use Rattle.datum_form.specs.Syntax.Syntax.{Leaf, Marked, Empty, Listed, Vector}
+use Rattle.datum_form.specs.declared.token.Mark.{Mark}
+use Rattle.datum_form.specs.declared.token.Token.{Token}
+use Rattle.datum_form.specs.Syntax.{Syntax, Rest, Elements, written, written_rest, written_elements, written_all}
+use Rattle.datum_form.specs.declared.token.Mark.TheVariants.{Quote, Quasiquote, Unquote, Splice}
+use Rattle.datum_form.specs.declared.token.Atom.TheVariants.{Symbol}
+use Rattle.datum_form.specs.declared.token.Token.TheVariants.{Close, Atomic}
+use Rattle.datum_form.specs.Syntax.Syntax.{Leaf, Marked, Nil, Listed, Vector}
 use Rattle.datum_form.specs.Syntax.Rest.{End, More, Tail}
 use Rattle.datum_form.specs.Syntax.Elements.{Last, Further}
 use Rattle.datum_reader.specs.Answer.{Reads}
 use Rattle.scheme_expand.specs.Inputs.{IsAtom, IsInput, AreInputs}
 
 abbrev IsGood : Token → Type 0
-IsGood (Alone p a) = IsAtom a
+IsGood (Atomic p a) = IsAtom a
 IsGood t = Unit {0}
 
 abbrev AreGood : List Token → Type 0
@@ -51,12 +52,12 @@ tokens_good p text ts (comment q line rest us one end more) = tokens_good _ rest
 tokens_good p text ts (token q w rest t us h more) = (token_good q w rest t h, tokens_good _ rest us more)
 
 pair_input : (p : Pos) (d e : Datum) → IsInput d → IsInput e → IsInput (pair p d e)
-pair_input p d (Single q a) h k = ((h, tt), k)
-pair_input p d (Chain q is) h k = (h, k)
-pair_input p d (Dotted q is t) h k = ((h, k.0), k.1)
-pair_input p d (Row q is) h k = ((h, tt), k)
+pair_input p d (datum.Atomic q a) h k = ((h, tt), k)
+pair_input p d (datum.List q is) h k = (h, k)
+pair_input p d (datum.Dotted q is t) h k = ((h, k.0), k.1)
+pair_input p d (datum.Vector q is) h k = ((h, tt), k)
 
-mark_input : (p : Pos) (m : Mark) → IsInput (Single p (Name (mark_name m)))
+mark_input : (p : Pos) (m : Mark) → IsInput (datum.Atomic p (Symbol (mark_name m)))
 mark_input p Quote = refl
 mark_input p Quasiquote = refl
 mark_input p Unquote = refl
@@ -68,7 +69,7 @@ mutual
   tree_input (Marked p m s) ts h =
       let inner = tree_input s ts h.1 in
       ((mark_input p m, (inner.0, tt)), inner.1)
-  tree_input (Empty p q) ts h = (tt, h.1.1)
+  tree_input (Nil p q) ts h = (tt, h.1.1)
   tree_input (Listed p s r q) ts h =
       let first = tree_input s (written_rest r (Close q ∷ ts)) h.1 in
       let rest = rest_input r p (Close q ∷ ts) first.1 in

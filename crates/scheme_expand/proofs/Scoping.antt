@@ -4,14 +4,13 @@ use Rattle.std.specs.Prelude.{nat_le, nat_lt, if◌then◌else◌}
 use Rattle.std.proofs.Math.Bool.{and-true, and-false}
 use Rattle.std.proofs.lemmas.List.Folds.{list_any-append}
 use Rattle.std.proofs.lemmas.Slice.Eq.{bytes_eq-Decides}
-use Rattle.scheme_base.specs.Constants.{Constant}
-use Rattle.scheme_base.specs.Constants.Constant.{Undefined as Hole}
+use Rattle.scheme_base.specs.Constants.{Constant, Constant as constant}
 use Rattle.core_form.specs.Valid.{and_rest, assigns, one_assigns}
 use Rattle.core_form.specs.Variables.{same_var}
-use Rattle.scheme_expand.specs.Drafts.{Name, Draft, Drafts, Part, Local, Fresh, Top, Library, Const, Symbols, Ref, Lambda, If, Set, Call, Prim, Seq, Fix, Define, none, item, Changed, parts, all_parts, is_change, changes}
-use Rattle.scheme_expand.specs.Numbers.{Given, At, var, named, numbered, all_numbered}
+use Rattle.draft_form.specs.Drafts.{Name, Draft, Drafts, Part, Local, Fresh, Top, Library, Const, Symbols, Ref, Lambda, If, Set, Call, Prim, Seq, Fix, Define, none, item, Changed, parts, all_parts, is_change, changes}
+use Rattle.draft_form.specs.Numbers.{Given, At, var, named, numbered, all_numbered}
 use Rattle.scheme_expand.specs.Rewriting.{found, variable, variables, unnamed, inside}
-use Rattle.scheme_expand.proofs.Good.{is_source, is_var, binds, assigned, one_assigned, IsTarget, HolesFor, Holes, AreBound, AreFixed, Good, AllGood}
+use Rattle.scheme_expand.proofs.GoodDrafts.{is_source, is_var, binds, assigned, one_assigned, IsTarget, HolesFor, Holes, AreBound, AreFixed, Good, AllGood}
 use Rattle.scheme_expand.proofs.Assigning.{BeginsDigit, dot_not}
 
 pub or_split : (a b : Bool) → (a || b) ≡ false → (a ≡ false) × (b ≡ false)
@@ -101,7 +100,7 @@ holes_assign : (x : List ℕ) (xs : List Name) (e : Draft) (es : Drafts) → Hol
 holes_assign x [] e none h = refl
 holes_assign x [] e (item d ds) h = absurd h
 holes_assign x (y ∷ ys) e none h = absurd h
-holes_assign x (y ∷ ys) e (item (Const p Hole) ds) h = holes_assign x ys e ds h.2
+holes_assign x (y ∷ ys) e (item (Const p constant.Undefined) ds) h = holes_assign x ys e ds h.2
 holes_assign x (y ∷ ys) e (item d ds) h = absurd h.1
 
 any_holes_assign : (x : List ℕ) (e : Draft) (es : Drafts) → Holes e es → one_assigned x es ≡ false
@@ -201,7 +200,7 @@ holes_numbered : (x : List ℕ) (symbols : Constant) (g : Given) (xs : List Name
 holes_numbered x symbols g [] e none at h = refl
 holes_numbered x symbols g [] e (item d ds) at h = absurd h
 holes_numbered x symbols g (y ∷ ys) e none at h = absurd h
-holes_numbered x symbols g (y ∷ ys) e (item (Const p Hole) ds) at h = holes_numbered x symbols g ys e ds _ h.2
+holes_numbered x symbols g (y ∷ ys) e (item (Const p constant.Undefined) ds) at h = holes_numbered x symbols g ys e ds _ h.2
 holes_numbered x symbols g (y ∷ ys) e (item d ds) at h = absurd h.1
 
 any_holes_numbered : (x : List ℕ) (symbols : Constant) (g : Given) (at : At) (e : Draft) (es : Drafts) → Holes e es

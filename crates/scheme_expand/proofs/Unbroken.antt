@@ -4,25 +4,24 @@ use Rattle.std.specs.Prelude.{nat_eq, nat_le, if◌then◌else◌, codes}
 use Rattle.std.specs.List.{list_any, IsDistinct, AllByRecursion}
 use Rattle.std.specs.Str.{byte}
 use Rattle.scheme_base.specs.declared.pos.Pos.{Pos}
-use Rattle.scheme_base.specs.Constants.Constant.{Symbol, Vector as Sequence}
-use Rattle.scheme_base.specs.Constants.{Constant, Nil as Empty}
+use Rattle.scheme_base.specs.Constants.{Constant, Constant as constant}
 use Rattle.scheme_expand.proofs.OfData.{IsOfData, AreOfData}
-use Rattle.datum_form.specs.Syntax.{Atom}
-use Rattle.datum_form.specs.Syntax.Atom.{Integer, Boolean, Character, Text, Name}
-use Rattle.datum_form.specs.Data.{Datum, Items}
-use Rattle.datum_form.specs.Data.Datum.{Single, Chain, Dotted, Row}
+use Rattle.datum_form.specs.declared.token.Atom.{Atom}
+use Rattle.datum_form.specs.declared.token.Atom.TheVariants.{Integer, Boolean, Character, String, Symbol}
+use Rattle.datum_form.specs.Data.{Datum, Datum as datum, Items}
 use Rattle.datum_form.specs.Data.Items.{none, item}
 use Rattle.datum_form.specs.Words.{is_name, is_ordinary, is_initial}
 use Rattle.scheme_expand.specs.Forms.{Word, Exp, Exps, Bindings, Body, Clauses, Cases, Steps, Template, Forms, Wrong, Value, Variable, Application, Procedure, OneArmed, TwoArmed, Assignment, Cond, Case, And, Or, Let, LetStar, Letrec, Do, Named, no_exp, exp, no_binding, binding, broken, Of, no_clause, value, clause, passing, no_case, one_of, fixed, stepped, Plain, Unquoted, Spliced, Pair, Vector, evaluated, defining}
 use Rattle.quasi_expand.specs.Shapes.{is_word, is_name as names_it, is_step, is_list_of, is_none, is_list, is_case, are_clauses}
-use Rattle.scheme_expand.specs.Grammar.{atom, constant, constant_list, constants, each_constant, word, are_names, word_of, words, twice, are_formals, params_of, rest_of, is_binding, passes, is_clause, is_definition, one_is_define, is_no_body, Check, rule, checked, bound_words, defines_twice, step_words, and_rest, procedure, lambda_of, binding_of, let_of, named_of, letrec_of, let_star_of, do_of, procedure_binding, after_bindings, cond_clause, case_clause, is_arrow, couple, row, marked, unquoted, spliced, form, quote_form, expr, exprs, lambda_form, if_form, set_form, begin_form, case_form, let_form, let_star_form, letrec_form, do_form, quasi_form, clauses, clause_before, cases, case_before, bindings, binding_list, binding_before, steps, step_list, step_before, body, definitions_before, each_definition, definition, template, template_list, templates_before, template_before, forms}
+use Rattle.draft_form.specs.Quoted.{atom, constant_of, constant_list, constants}
+use Rattle.scheme_expand.specs.Grammar.{each_constant, word, are_names, word_of, words, twice, are_formals, params_of, rest_of, is_binding, passes, is_clause, is_definition, one_is_define, is_no_body, Check, rule, checked, bound_words, defines_twice, step_words, and_rest, procedure, lambda_of, binding_of, let_of, named_of, letrec_of, let_star_of, do_of, procedure_binding, after_bindings, cond_clause, case_clause, is_arrow, pair_of, vector_of, marked, unquoted, spliced, form, quote_form, expr, exprs, lambda_form, if_form, set_form, begin_form, case_form, let_form, let_star_form, letrec_form, do_form, quasi_form, clauses, clause_before, cases, case_before, bindings, binding_list, binding_before, steps, step_list, step_before, body, definitions_before, each_definition, definition, template, template_list, templates_before, template_before, forms}
 use Rattle.scheme_expand.specs.Faults.{Fault, fault, in_word, in_words, in_exp, in_exps, in_bindings, in_body, in_clauses, in_cases, in_steps, in_template, in_forms}
 use Rattle.scheme_expand.specs.Inputs.{IsAtom, IsInput, AreInputs}
 use Rattle.scheme_expand.specs.Rewriting.{names}
-use Rattle.scheme_expand.proofs.Good.{is_source, AreSources}
+use Rattle.scheme_expand.proofs.GoodDrafts.{is_source, AreSources}
 use Rattle.scheme_expand.proofs.GoodCalls.{chosen, begun_each}
 use Rattle.scheme_expand.proofs.Scoping.{apart, and_split, or_split, same_bytes}
-use Rattle.scheme_expand.proofs.Sound.{EachOfData, Differ, HasExp, Sound, AllSound, SoundBindings, SoundBody, SoundClauses, SoundCases, SoundSteps, SoundTemplate, SoundForms}
+use Rattle.scheme_expand.proofs.SoundForms.{EachOfData, Differ, HasExp, Sound, AllSound, SoundBindings, SoundBody, SoundClauses, SoundCases, SoundSteps, SoundTemplate, SoundForms}
 
 -- Names of R4RS are no fresh variables'
 
@@ -66,15 +65,15 @@ atom_part : (a : Atom) → IsAtom a → IsOfData (atom a)
 atom_part (Integer z) h = h
 atom_part (Boolean b) h = tt
 atom_part (Character byte) h = tt
-atom_part (Text bytes) h = tt
-atom_part (Name x) h = tt
+atom_part (String bytes) h = tt
+atom_part (Symbol x) h = tt
 
 mutual
-  pub constant_part : (d : Datum) → IsInput d → IsOfData (constant d)
-  constant_part (Single p a) h = atom_part a h
-  constant_part (Chain p is) h = list_part is Empty h tt
-  constant_part (Dotted p is d) h = list_part is (constant d) h.0 (constant_part d h.1)
-  constant_part (Row p is) h = constants_part is h
+  pub constant_part : (d : Datum) → IsInput d → IsOfData (constant_of d)
+  constant_part (datum.Atomic p a) h = atom_part a h
+  constant_part (datum.List p is) h = list_part is constant.Nil h tt
+  constant_part (datum.Dotted p is d) h = list_part is (constant_of d) h.0 (constant_part d h.1)
+  constant_part (datum.Vector p is) h = constants_part is h
 
   list_part : (ds : Items) (c : Constant) → AreInputs ds → IsOfData c → IsOfData (constant_list ds c)
   list_part none c h k = k
@@ -92,14 +91,14 @@ each_part (item d ds) h = (constant_part d h.0, each_part ds h.1)
 
 words_sources : (ds : Items) → AreInputs ds → AreSources (names (words ds))
 words_sources none h = tt
-words_sources (item (Single p (Name x)) ds) h = (name_source x h.0, words_sources ds h.1)
-words_sources (item (Single p (Integer z)) ds) h = words_sources ds h.1
-words_sources (item (Single p (Boolean b)) ds) h = words_sources ds h.1
-words_sources (item (Single p (Character b)) ds) h = words_sources ds h.1
-words_sources (item (Single p (Text t)) ds) h = words_sources ds h.1
-words_sources (item (Chain p is) ds) h = words_sources ds h.1
-words_sources (item (Dotted p is d) ds) h = words_sources ds h.1
-words_sources (item (Row p is) ds) h = words_sources ds h.1
+words_sources (item (datum.Atomic p (Symbol x)) ds) h = (name_source x h.0, words_sources ds h.1)
+words_sources (item (datum.Atomic p (Integer z)) ds) h = words_sources ds h.1
+words_sources (item (datum.Atomic p (Boolean b)) ds) h = words_sources ds h.1
+words_sources (item (datum.Atomic p (Character b)) ds) h = words_sources ds h.1
+words_sources (item (datum.Atomic p (String t)) ds) h = words_sources ds h.1
+words_sources (item (datum.List p is) ds) h = words_sources ds h.1
+words_sources (item (datum.Dotted p is d) ds) h = words_sources ds h.1
+words_sources (item (datum.Vector p is) ds) h = words_sources ds h.1
 
 -- a word, if there is one, has a name of the program
 abbrev IsSourceWord : Option Word → Type 0
@@ -107,14 +106,14 @@ IsSourceWord None = Unit {0}
 IsSourceWord (Some w) = is_source w.name ≡ true
 
 word_source : (d : Datum) → IsInput d → IsSourceWord (word_of d)
-word_source (Single p (Name x)) h = name_source x h
-word_source (Single p (Integer z)) h = tt
-word_source (Single p (Boolean b)) h = tt
-word_source (Single p (Character b)) h = tt
-word_source (Single p (Text t)) h = tt
-word_source (Chain p is) h = tt
-word_source (Dotted p is d) h = tt
-word_source (Row p is) h = tt
+word_source (datum.Atomic p (Symbol x)) h = name_source x h
+word_source (datum.Atomic p (Integer z)) h = tt
+word_source (datum.Atomic p (Boolean b)) h = tt
+word_source (datum.Atomic p (Character b)) h = tt
+word_source (datum.Atomic p (String t)) h = tt
+word_source (datum.List p is) h = tt
+word_source (datum.Dotted p is d) h = tt
+word_source (datum.Vector p is) h = tt
 
 rest_sources : (ws : List Word) (r : Option Word) → AreSources (names ws) → IsSourceWord r → AreSources (names (and_rest ws r))
 rest_sources [] None h k = tt
@@ -122,16 +121,16 @@ rest_sources [] (Some w) h k = (k, tt)
 rest_sources (w ∷ ws) r h k = (h.0, rest_sources ws r h.1 k)
 
 params_sources : (d : Datum) → IsInput d → AreSources (names (params_of d))
-params_sources (Single p a) h = tt
-params_sources (Chain p is) h = words_sources is h
-params_sources (Dotted p is d) h = words_sources is h.0
-params_sources (Row p is) h = tt
+params_sources (datum.Atomic p a) h = tt
+params_sources (datum.List p is) h = words_sources is h
+params_sources (datum.Dotted p is d) h = words_sources is h.0
+params_sources (datum.Vector p is) h = tt
 
 rest_source : (d : Datum) → IsInput d → IsSourceWord (rest_of d)
-rest_source (Single p a) h = word_source (Single p a) h
-rest_source (Chain p is) h = tt
-rest_source (Dotted p is d) h = word_source d h.1
-rest_source (Row p is) h = tt
+rest_source (datum.Atomic p a) h = word_source (datum.Atomic p a) h
+rest_source (datum.List p is) h = tt
+rest_source (datum.Dotted p is d) h = word_source d h.1
+rest_source (datum.Vector p is) h = tt
 
 other_words : (w : Word) (ws : List Word) → list_any (λ v. bytes_eq w.name v.name) ws ≡ false
     → AllByRecursion (λ y. bytes_eq w.name y ≡ false) (names ws)
@@ -334,10 +333,10 @@ fair_one_of constants_of es cs x c h k n =
 fair_case_clause : (is_else : Bool) (d : Datum) (es : Exps) (cs : Cases) → HasExp es → IsInput d → AllFair es → FairCases cs
     → FairCases (case_clause is_else d es cs)
 fair_case_clause true d es cs x i h k = λ n. (x, h n)
-fair_case_clause false (Chain p is) es cs x i h k = fair_one_of (each_constant is) es cs x (each_part is i) h k
-fair_case_clause false (Single p a) es cs x i h k = k
-fair_case_clause false (Dotted p is d) es cs x i h k = k
-fair_case_clause false (Row p is) es cs x i h k = k
+fair_case_clause false (datum.List p is) es cs x i h k = fair_one_of (each_constant is) es cs x (each_part is i) h k
+fair_case_clause false (datum.Atomic p a) es cs x i h k = k
+fair_case_clause false (datum.Dotted p is d) es cs x i h k = k
+fair_case_clause false (datum.Vector p is) es cs x i h k = k
 
 -- Bindings and steps
 
@@ -388,27 +387,27 @@ fair_plain c h n = h
 fair_pair : (s t : Template) → FairTemplate s → FairTemplate t → FairTemplate (Pair s t)
 fair_pair s t h k n = let parts = append_split (in_template s) (in_template t) n in (h parts.0, k parts.1)
 
-fair_couple : (s t : Template) → FairTemplate s → FairTemplate t → FairTemplate (couple s t)
-fair_couple (Plain c) (Plain d) h k = λ n. (h refl, k refl)
-fair_couple (Plain c) (Unquoted e) h k = fair_pair (Plain c) (Unquoted e) h k
-fair_couple (Plain c) (Spliced e t) h k = fair_pair (Plain c) (Spliced e t) h k
-fair_couple (Plain c) (Pair s t) h k = fair_pair (Plain c) (Pair s t) h k
-fair_couple (Plain c) (Vector t) h k = fair_pair (Plain c) (Vector t) h k
-fair_couple (Unquoted e) t h k = fair_pair (Unquoted e) t h k
-fair_couple (Spliced e s) t h k = fair_pair (Spliced e s) t h k
-fair_couple (Pair s u) t h k = fair_pair (Pair s u) t h k
-fair_couple (Vector s) t h k = fair_pair (Vector s) t h k
+fair_pair_of : (s t : Template) → FairTemplate s → FairTemplate t → FairTemplate (pair_of s t)
+fair_pair_of (Plain c) (Plain d) h k = λ n. (h refl, k refl)
+fair_pair_of (Plain c) (Unquoted e) h k = fair_pair (Plain c) (Unquoted e) h k
+fair_pair_of (Plain c) (Spliced e t) h k = fair_pair (Plain c) (Spliced e t) h k
+fair_pair_of (Plain c) (Pair s t) h k = fair_pair (Plain c) (Pair s t) h k
+fair_pair_of (Plain c) (Vector t) h k = fair_pair (Plain c) (Vector t) h k
+fair_pair_of (Unquoted e) t h k = fair_pair (Unquoted e) t h k
+fair_pair_of (Spliced e s) t h k = fair_pair (Spliced e s) t h k
+fair_pair_of (Pair s u) t h k = fair_pair (Pair s u) t h k
+fair_pair_of (Vector s) t h k = fair_pair (Vector s) t h k
 
-fair_row : (c : Constant) (t : Template) → IsOfData c → FairTemplate t → FairTemplate (row c t)
-fair_row c (Plain d) h k = λ n. h
-fair_row c (Unquoted e) h k = k
-fair_row c (Spliced e t) h k = k
-fair_row c (Pair s t) h k = k
-fair_row c (Vector t) h k = k
+fair_vector_of : (c : Constant) (t : Template) → IsOfData c → FairTemplate t → FairTemplate (vector_of c t)
+fair_vector_of c (Plain d) h k = λ n. h
+fair_vector_of c (Unquoted e) h k = k
+fair_vector_of c (Spliced e t) h k = k
+fair_vector_of c (Pair s t) h k = k
+fair_vector_of c (Vector t) h k = k
 
 fair_marked : (x : List ℕ) (t : Template) → FairTemplate t → FairTemplate (marked x t)
 fair_marked x t h =
-    fair_couple (Plain (Symbol x)) (couple t (Plain Empty)) (λ n. tt) (fair_couple t (Plain Empty) h (λ n. tt))
+    fair_pair_of (Plain (constant.Symbol x)) (pair_of t (Plain constant.Nil)) (λ n. tt) (fair_pair_of t (Plain constant.Nil) h (λ n. tt))
 
 fair_unquoted : (n : ℕ) (e : Exp) (t : ℕ → Template) → Fair e → ((m : ℕ) → FairTemplate (t m)) → FairTemplate (unquoted n e t)
 fair_unquoted zero e t h k = h
@@ -421,7 +420,7 @@ fair_spliced : (n : ℕ) (e : Exp) (t : ℕ → Template) (rest : Template) → 
     → FairTemplate rest → FairTemplate (spliced n e t rest)
 fair_spliced zero e t rest h k l = fair_splice e rest h l
 fair_spliced (suc n) e t rest h k l =
-    fair_couple (marked (codes "unquote-splicing") (t n)) rest (fair_marked (codes "unquote-splicing") (t n) (k n)) l
+    fair_pair_of (marked (codes "unquote-splicing") (t n)) rest (fair_marked (codes "unquote-splicing") (t n) (k n)) l
 
 -- Expressions
 
@@ -452,13 +451,13 @@ has_items : (ds : Items) → not (is_none ds) ≡ true → HasExp (exprs ds)
 has_items none h = absurd (apart (sym h))
 has_items (item d ds) h = tt
 
-has_else : (p : Pos) (d : Datum) (ds : Items) (last : Bool) → is_clause last (Chain p (item d ds)) ≡ true
+has_else : (p : Pos) (d : Datum) (ds : Items) (last : Bool) → is_clause last (datum.List p (item d ds)) ≡ true
     → is_word (codes "else") d ≡ true → HasExp (exprs ds)
 has_else p d ds last h w =
     has_items ds
     (and_split last (not (is_none ds)) (sym (ap (λ b. if b then last && not (is_none ds) else passes ds) w) ∙ h)).1
 
-has_case : (p : Pos) (d : Datum) (ds : Items) (last : Bool) → is_case last (Chain p (item d ds)) ≡ true → HasExp (exprs ds)
+has_case : (p : Pos) (d : Datum) (ds : Items) (last : Bool) → is_case last (datum.List p (item d ds)) ≡ true → HasExp (exprs ds)
 has_case p d ds last h =
     has_items ds (and_split (is_list d || last && is_word (codes "else") d) (not (is_none ds)) h).1
 
@@ -468,15 +467,15 @@ kept false h = absurd (apart h)
 
 mutual
   pub fair : (d : Datum) → IsInput d → Fair (expr d)
-  fair (Single p (Name x)) i = fair_variable p x i
-  fair (Single p (Integer z)) i = λ n. i
-  fair (Single p (Boolean b)) i = λ n. tt
-  fair (Single p (Character byte)) i = λ n. tt
-  fair (Single p (Text bytes)) i = λ n. tt
-  fair (Row p is) i = fair_wrong p 15
-  fair (Dotted p is d) i = fair_wrong p 10
-  fair (Chain p none) i = fair_wrong p 13
-  fair (Chain p (item (Single q (Name x)) ds)) i =
+  fair (datum.Atomic p (Symbol x)) i = fair_variable p x i
+  fair (datum.Atomic p (Integer z)) i = λ n. i
+  fair (datum.Atomic p (Boolean b)) i = λ n. tt
+  fair (datum.Atomic p (Character byte)) i = λ n. tt
+  fair (datum.Atomic p (String bytes)) i = λ n. tt
+  fair (datum.Vector p is) i = fair_wrong p 15
+  fair (datum.Dotted p is d) i = fair_wrong p 10
+  fair (datum.List p none) i = fair_wrong p 13
+  fair (datum.List p (item (datum.Atomic q (Symbol x)) ds)) i =
       begun_each Fair x
       (form (codes "quote") (quote_form p ds)
       ∷ form (codes "quasiquote") (quasi_form p ds)
@@ -551,20 +550,20 @@ mutual
         ),
       )
       (fair_apply p (Variable (word q x)) (exprs ds) (fair_variable q x i.0) (all_fair ds i.1))
-  fair (Chain p (item (Single q (Integer z)) ds)) i =
+  fair (datum.List p (item (datum.Atomic q (Integer z)) ds)) i =
       fair_apply p (Value q (atom (Integer z))) (exprs ds) (λ n. i.0) (all_fair ds i.1)
-  fair (Chain p (item (Single q (Boolean b)) ds)) i =
+  fair (datum.List p (item (datum.Atomic q (Boolean b)) ds)) i =
       fair_apply p (Value q (atom (Boolean b))) (exprs ds) (λ n. tt) (all_fair ds i.1)
-  fair (Chain p (item (Single q (Character byte)) ds)) i =
+  fair (datum.List p (item (datum.Atomic q (Character byte)) ds)) i =
       fair_apply p (Value q (atom (Character byte))) (exprs ds) (λ n. tt) (all_fair ds i.1)
-  fair (Chain p (item (Single q (Text bytes)) ds)) i =
-      fair_apply p (Value q (atom (Text bytes))) (exprs ds) (λ n. tt) (all_fair ds i.1)
-  fair (Chain p (item (Chain q is) ds)) i =
-      fair_apply p (expr (Chain q is)) (exprs ds) (fair (Chain q is) i.0) (all_fair ds i.1)
-  fair (Chain p (item (Dotted q is d) ds)) i =
-      fair_apply p (expr (Dotted q is d)) (exprs ds) (fair_wrong q 10) (all_fair ds i.1)
-  fair (Chain p (item (Row q is) ds)) i =
-      fair_apply p (expr (Row q is)) (exprs ds) (fair_wrong q 15) (all_fair ds i.1)
+  fair (datum.List p (item (datum.Atomic q (String bytes)) ds)) i =
+      fair_apply p (Value q (atom (String bytes))) (exprs ds) (λ n. tt) (all_fair ds i.1)
+  fair (datum.List p (item (datum.List q is) ds)) i =
+      fair_apply p (expr (datum.List q is)) (exprs ds) (fair (datum.List q is) i.0) (all_fair ds i.1)
+  fair (datum.List p (item (datum.Dotted q is d) ds)) i =
+      fair_apply p (expr (datum.Dotted q is d)) (exprs ds) (fair_wrong q 10) (all_fair ds i.1)
+  fair (datum.List p (item (datum.Vector q is) ds)) i =
+      fair_apply p (expr (datum.Vector q is)) (exprs ds) (fair_wrong q 15) (all_fair ds i.1)
 
   all_fair : (ds : Items) → AreInputs ds → AllFair (exprs ds)
   all_fair none i = λ n. tt
@@ -583,7 +582,7 @@ mutual
   fair_if p (item d (item e (item f (item g ds)))) i = fair_wrong p 5
 
   fair_set : (p : Pos) (ds : Items) → AreInputs ds → Fair (set_form p ds)
-  fair_set p (item (Single q (Name x)) (item e none)) i =
+  fair_set p (item (datum.Atomic q (Symbol x)) (item e none)) i =
       fair_assign p (word q x) (expr e) (name_source x i.0) (fair e i.1.0)
   fair_set p ds i = fair_wrong p 5
 
@@ -599,17 +598,17 @@ mutual
 
   fair_let_form : (p : Pos) (ds : Items) → AreInputs ds → Fair (let_form p ds)
   fair_let_form p none i = fair_wrong p 4
-  fair_let_form p (item (Single q (Name x)) none) i = fair_wrong p 4
-  fair_let_form p (item (Single q (Name x)) (item d ds)) i =
+  fair_let_form p (item (datum.Atomic q (Symbol x)) none) i = fair_wrong p 4
+  fair_let_form p (item (datum.Atomic q (Symbol x)) (item d ds)) i =
       fair_named p (word q x) d ds (bindings d) (body ds) (name_source x i.0) (fair_bindings d i.1.0) (fair_body ds i.1.1, has_body ds)
-  fair_let_form p (item (Single q (Integer z)) ds) i = fair_let p (Single q (Integer z)) ds no_binding (body ds) (λ n. tt) (fair_body ds i.1, has_body ds)
-  fair_let_form p (item (Single q (Boolean b)) ds) i = fair_let p (Single q (Boolean b)) ds no_binding (body ds) (λ n. tt) (fair_body ds i.1, has_body ds)
-  fair_let_form p (item (Single q (Character b)) ds) i = fair_let p (Single q (Character b)) ds no_binding (body ds) (λ n. tt) (fair_body ds i.1, has_body ds)
-  fair_let_form p (item (Single q (Text b)) ds) i = fair_let p (Single q (Text b)) ds no_binding (body ds) (λ n. tt) (fair_body ds i.1, has_body ds)
-  fair_let_form p (item (Chain q is) ds) i =
-      fair_let p (Chain q is) ds (bindings (Chain q is)) (body ds) (fair_bindings (Chain q is) i.0) (fair_body ds i.1, has_body ds)
-  fair_let_form p (item (Dotted q is d) ds) i = fair_let p (Dotted q is d) ds no_binding (body ds) (λ n. tt) (fair_body ds i.1, has_body ds)
-  fair_let_form p (item (Row q is) ds) i = fair_let p (Row q is) ds no_binding (body ds) (λ n. tt) (fair_body ds i.1, has_body ds)
+  fair_let_form p (item (datum.Atomic q (Integer z)) ds) i = fair_let p (datum.Atomic q (Integer z)) ds no_binding (body ds) (λ n. tt) (fair_body ds i.1, has_body ds)
+  fair_let_form p (item (datum.Atomic q (Boolean b)) ds) i = fair_let p (datum.Atomic q (Boolean b)) ds no_binding (body ds) (λ n. tt) (fair_body ds i.1, has_body ds)
+  fair_let_form p (item (datum.Atomic q (Character b)) ds) i = fair_let p (datum.Atomic q (Character b)) ds no_binding (body ds) (λ n. tt) (fair_body ds i.1, has_body ds)
+  fair_let_form p (item (datum.Atomic q (String b)) ds) i = fair_let p (datum.Atomic q (String b)) ds no_binding (body ds) (λ n. tt) (fair_body ds i.1, has_body ds)
+  fair_let_form p (item (datum.List q is) ds) i =
+      fair_let p (datum.List q is) ds (bindings (datum.List q is)) (body ds) (fair_bindings (datum.List q is) i.0) (fair_body ds i.1, has_body ds)
+  fair_let_form p (item (datum.Dotted q is d) ds) i = fair_let p (datum.Dotted q is d) ds no_binding (body ds) (λ n. tt) (fair_body ds i.1, has_body ds)
+  fair_let_form p (item (datum.Vector q is) ds) i = fair_let p (datum.Vector q is) ds no_binding (body ds) (λ n. tt) (fair_body ds i.1, has_body ds)
 
   fair_let_star_form : (p : Pos) (ds : Items) → AreInputs ds → Fair (let_star_form p ds)
   fair_let_star_form p none i = fair_wrong p 4
@@ -620,7 +619,7 @@ mutual
   fair_letrec_form p (item d ds) i = fair_letrec p d ds (bindings d) (body ds) (fair_bindings d i.0) (fair_body ds i.1, has_body ds)
 
   fair_do_form : (p : Pos) (ds : Items) → AreInputs ds → Fair (do_form p ds)
-  fair_do_form p (item d (item (Chain q (item e es)) ds)) i =
+  fair_do_form p (item d (item (datum.List q (item e es)) ds)) i =
       fair_do p d (steps d) (expr e) (exprs es) (exprs ds) (fair_steps d i.0) (fair e i.1.0.0) (all_fair es i.1.0.1) (all_fair ds i.1.1)
   fair_do_form p ds i = fair_wrong p 9
 
@@ -638,13 +637,13 @@ mutual
 
   fair_clause_before : (d : Datum) → IsInput d → (last : Bool) → is_clause last d ≡ true → (cs : Clauses) → FairClauses cs
       → FairClauses (clause_before d cs)
-  fair_clause_before (Chain p (item d ds)) i last c cs h =
+  fair_clause_before (datum.List p (item d ds)) i last c cs h =
       fair_cond_clause (is_word (codes "else") d) (is_arrow ds) (expr d) (exprs ds) cs (has_else p d ds last c) (fair d i.0)
       (all_fair ds i.1) (fair_receiver ds i.1) h
-  fair_clause_before (Chain p none) i last c cs h = h
-  fair_clause_before (Single p a) i last c cs h = h
-  fair_clause_before (Dotted p is d) i last c cs h = h
-  fair_clause_before (Row p is) i last c cs h = h
+  fair_clause_before (datum.List p none) i last c cs h = h
+  fair_clause_before (datum.Atomic p a) i last c cs h = h
+  fair_clause_before (datum.Dotted p is d) i last c cs h = h
+  fair_clause_before (datum.Vector p is) i last c cs h = h
 
   fair_receiver : (ds : Items) → AreInputs ds → FairReceiver (exprs ds)
   fair_receiver none i = tt
@@ -660,42 +659,42 @@ mutual
 
   fair_case_before : (d : Datum) → IsInput d → (last : Bool) → is_case last d ≡ true → (cs : Cases) → FairCases cs
       → FairCases (case_before d cs)
-  fair_case_before (Chain p (item d ds)) i last c cs h =
+  fair_case_before (datum.List p (item d ds)) i last c cs h =
       fair_case_clause (is_word (codes "else") d) d (exprs ds) cs (has_case p d ds last c) i.0 (all_fair ds i.1) h
-  fair_case_before (Chain p none) i last c cs h = h
-  fair_case_before (Single p a) i last c cs h = h
-  fair_case_before (Dotted p is d) i last c cs h = h
-  fair_case_before (Row p is) i last c cs h = h
+  fair_case_before (datum.List p none) i last c cs h = h
+  fair_case_before (datum.Atomic p a) i last c cs h = h
+  fair_case_before (datum.Dotted p is d) i last c cs h = h
+  fair_case_before (datum.Vector p is) i last c cs h = h
 
   fair_bindings : (d : Datum) → IsInput d → FairBindings (bindings d)
-  fair_bindings (Chain p is) i = fair_binding_list is i
-  fair_bindings (Single p a) i = λ n. tt
-  fair_bindings (Dotted p is d) i = λ n. tt
-  fair_bindings (Row p is) i = λ n. tt
+  fair_bindings (datum.List p is) i = fair_binding_list is i
+  fair_bindings (datum.Atomic p a) i = λ n. tt
+  fair_bindings (datum.Dotted p is d) i = λ n. tt
+  fair_bindings (datum.Vector p is) i = λ n. tt
 
   fair_binding_list : (ds : Items) → AreInputs ds → FairBindings (binding_list ds)
   fair_binding_list none i = λ n. tt
   fair_binding_list (item d ds) i = fair_binding_before d i.0 (binding_list ds) (fair_binding_list ds i.1)
 
   fair_binding_before : (d : Datum) → IsInput d → (bs : Bindings) → FairBindings bs → FairBindings (binding_before d bs)
-  fair_binding_before (Chain p (item (Single q (Name x)) (item e none))) i bs h =
+  fair_binding_before (datum.List p (item (datum.Atomic q (Symbol x)) (item e none))) i bs h =
       fair_bound p (word q x) (expr e) bs (name_source x i.0) (fair e i.1.0) h
   fair_binding_before d i bs h = h
 
   fair_steps : (d : Datum) → IsInput d → FairSteps (steps d)
-  fair_steps (Chain p is) i = fair_step_list is i
-  fair_steps (Single p a) i = λ n. tt
-  fair_steps (Dotted p is d) i = λ n. tt
-  fair_steps (Row p is) i = λ n. tt
+  fair_steps (datum.List p is) i = fair_step_list is i
+  fair_steps (datum.Atomic p a) i = λ n. tt
+  fair_steps (datum.Dotted p is d) i = λ n. tt
+  fair_steps (datum.Vector p is) i = λ n. tt
 
   fair_step_list : (ds : Items) → AreInputs ds → FairSteps (step_list ds)
   fair_step_list none i = λ n. tt
   fair_step_list (item d ds) i = fair_step_before d i.0 (step_list ds) (fair_step_list ds i.1)
 
   fair_step_before : (d : Datum) → IsInput d → (ss : Steps) → FairSteps ss → FairSteps (step_before d ss)
-  fair_step_before (Chain p (item (Single q (Name x)) (item e none))) i ss h =
+  fair_step_before (datum.List p (item (datum.Atomic q (Symbol x)) (item e none))) i ss h =
       fair_fixed (word q x) (expr e) ss (name_source x i.0) (fair e i.1.0) h
-  fair_step_before (Chain p (item (Single q (Name x)) (item e (item f none)))) i ss h =
+  fair_step_before (datum.List p (item (datum.Atomic q (Symbol x)) (item e (item f none)))) i ss h =
       fair_stepped (word q x) (expr e) (expr f) ss (name_source x i.0) (fair e i.1.0) (fair f i.1.1.0) h
   fair_step_before d i ss h = h
 
@@ -707,49 +706,49 @@ mutual
       ((λ n. tt), fair_exp (expr d) (exprs ds) (fair d i.0) (all_fair ds i.1))
 
   fair_definitions : (d : Datum) → IsInput d → (bs : Bindings) → FairBindings bs → FairBindings (definitions_before d bs)
-  fair_definitions (Chain p (item d ds)) i bs h =
+  fair_definitions (datum.List p (item d ds)) i bs h =
       chosen FairBindings (is_word (codes "define") d) (definition p ds bs) (each_definition ds bs)
       (fair_definition p ds i.1 bs h) (fair_each ds i.1 bs h)
-  fair_definitions (Chain p none) i bs h = h
-  fair_definitions (Single p a) i bs h = h
-  fair_definitions (Dotted p is d) i bs h = fair_broken p 10 bs
-  fair_definitions (Row p is) i bs h = h
+  fair_definitions (datum.List p none) i bs h = h
+  fair_definitions (datum.Atomic p a) i bs h = h
+  fair_definitions (datum.Dotted p is d) i bs h = fair_broken p 10 bs
+  fair_definitions (datum.Vector p is) i bs h = h
 
   fair_each : (ds : Items) → AreInputs ds → (bs : Bindings) → FairBindings bs → FairBindings (each_definition ds bs)
   fair_each none i bs h = h
   fair_each (item d ds) i bs h = fair_definitions d i.0 (each_definition ds bs) (fair_each ds i.1 bs h)
 
   fair_definition : (p : Pos) (ds : Items) → AreInputs ds → (bs : Bindings) → FairBindings bs → FairBindings (definition p ds bs)
-  fair_definition p (item (Single q (Name x)) (item e none)) i bs h =
+  fair_definition p (item (datum.Atomic q (Symbol x)) (item e none)) i bs h =
       fair_bound p (word q x) (expr e) bs (name_source x i.0) (fair e i.1.0) h
-  fair_definition p (item (Chain q (item (Single r (Name x)) fs)) ds) i bs h =
+  fair_definition p (item (datum.List q (item (datum.Atomic r (Symbol x)) fs)) ds) i bs h =
       fair_defined p (word r x) (are_names fs) (words fs) None ds (body ds) bs (name_source x i.0.0) (words_sources fs i.0.1) tt
       (fair_body ds i.1, has_body ds) h
-  fair_definition p (item (Dotted q (item (Single r (Name x)) fs) d) ds) i bs h =
+  fair_definition p (item (datum.Dotted q (item (datum.Atomic r (Symbol x)) fs) d) ds) i bs h =
       fair_defined p (word r x) (are_names fs && names_it d) (words fs) (word_of d) ds (body ds) bs (name_source x i.0.0.0)
       (words_sources fs i.0.0.1) (word_source d i.0.1) (fair_body ds i.1, has_body ds) h
   fair_definition p ds i bs h = fair_broken p 11 bs
 
   fair_template : (d : Datum) → IsInput d → (n : ℕ) → FairTemplate (template d n)
-  fair_template (Single p a) i n = fair_plain (atom a) (atom_part a i)
-  fair_template (Chain p is) i n = fair_template_list is i n
-  fair_template (Dotted p is d) i n = fair_templates is i.0 n (template d n) (fair_template d i.1 n)
-  fair_template (Row p is) i n =
-      fair_row (Sequence (constants is)) (template_list is n) (constants_part is i) (fair_template_list is i n)
+  fair_template (datum.Atomic p a) i n = fair_plain (atom a) (atom_part a i)
+  fair_template (datum.List p is) i n = fair_template_list is i n
+  fair_template (datum.Dotted p is d) i n = fair_templates is i.0 n (template d n) (fair_template d i.1 n)
+  fair_template (datum.Vector p is) i n =
+      fair_vector_of (constant.Vector (constants is)) (template_list is n) (constants_part is i) (fair_template_list is i n)
 
   fair_template_list : (ds : Items) → AreInputs ds → (n : ℕ) → FairTemplate (template_list ds n)
   fair_template_list none i n = λ k. tt
-  fair_template_list (item (Single p (Name x)) (item e none)) i n =
+  fair_template_list (item (datum.Atomic p (Symbol x)) (item e none)) i n =
       begun_each FairTemplate x
       (form (codes "unquote") (unquoted n (expr e) (template e))
       ∷ form (codes "quasiquote") (marked (codes "quasiquote") (template e (suc n)))
       ∷ [])
-      (couple (Plain (Symbol x)) (template_before e n (template e n) (Plain Empty))) (
+      (pair_of (Plain (constant.Symbol x)) (template_before e n (template e n) (Plain constant.Nil))) (
         fair_unquoted n (expr e) (template e) (fair e i.1.0) (fair_template e i.1.0),
         (fair_marked (codes "quasiquote") (template e (suc n)) (fair_template e i.1.0 (suc n)), tt),
       )
-      (fair_couple (Plain (Symbol x)) (template_before e n (template e n) (Plain Empty)) (λ k. tt)
-      (fair_before e i.1.0 n (template e n) (Plain Empty) (fair_template e i.1.0 n) (λ k. tt)))
+      (fair_pair_of (Plain (constant.Symbol x)) (template_before e n (template e n) (Plain constant.Nil)) (λ k. tt)
+      (fair_before e i.1.0 n (template e n) (Plain constant.Nil) (fair_template e i.1.0 n) (λ k. tt)))
   fair_template_list (item d ds) i n =
       fair_before d i.0 n (template d n) (template_list ds n) (fair_template d i.0 n) (fair_template_list ds i.1 n)
 
@@ -760,10 +759,10 @@ mutual
 
   fair_before : (d : Datum) → IsInput d → (n : ℕ) (t rest : Template) → FairTemplate t → FairTemplate rest
       → FairTemplate (template_before d n t rest)
-  fair_before (Chain p (item (Single q (Name x)) (item e none))) i n t rest h k =
-      chosen FairTemplate (bytes_eq x (codes "unquote-splicing")) (spliced n (expr e) (template e) rest) (couple t rest)
-      (fair_spliced n (expr e) (template e) rest (fair e i.1.0) (fair_template e i.1.0) k) (fair_couple t rest h k)
-  fair_before d i n t rest h k = fair_couple t rest h k
+  fair_before (datum.List p (item (datum.Atomic q (Symbol x)) (item e none))) i n t rest h k =
+      chosen FairTemplate (bytes_eq x (codes "unquote-splicing")) (spliced n (expr e) (template e) rest) (pair_of t rest)
+      (fair_spliced n (expr e) (template e) rest (fair e i.1.0) (fair_template e i.1.0) k) (fair_pair_of t rest h k)
+  fair_before d i n t rest h k = fair_pair_of t rest h k
 
 -- Programs
 

@@ -8,9 +8,8 @@ use Rattle.scheme_expand.proofs.OfData.{IsOfData}
 use Rattle.scheme_expand.proofs.Positions.{all_placed}
 use Rattle.scheme_expand.specs.Laws.{IsTyped, AreBytes}
 use Rattle.prelude_text.specs.Closure.{has}
-use Rattle.datum_form.specs.Data.{Datum, Items}
-use Rattle.datum_form.specs.Data.Datum.{Single, Chain, Dotted, Row}
-use Rattle.datum_form.specs.Data.Items.{none as no_datum, item as datum}
+use Rattle.datum_form.specs.Data.{Datum, Datum as datum, Items}
+use Rattle.datum_form.specs.Data.Items.{none as no_datum, item as datum_before}
 use Rattle.core_form.specs.declared.program.Var.{Var}
 use Rattle.core_form.specs.declared.program.Program.{Program}
 use Rattle.core_form.specs.Valid.{AllConstants, IsCore, FineForms, FineForm}
@@ -18,15 +17,16 @@ use Rattle.core_form.specs.Variables.{same_var}
 use Rattle.scheme_expand.specs.Forms.{Forms}
 use Rattle.scheme_expand.specs.Grammar.{forms}
 use Rattle.scheme_expand.specs.Faults.{in_forms}
-use Rattle.scheme_expand.specs.Drafts.{Draft, Drafts, Const, Symbols, Ref, Lambda, If, Set, Call, Prim, Seq, Fix, Define, none, item, ◌then◌, parts, all_parts}
-use Rattle.scheme_expand.specs.Numbers.{Given, At, constants, all_sizes, bound_fresh, all_bound_fresh, after, numbered, all_numbered, laid_list}
+use Rattle.draft_form.specs.Drafts.{Draft, Drafts, Const, Symbols, Ref, Lambda, If, Set, Call, Prim, Seq, Fix, Define, none, item, ◌then◌, parts, all_parts}
+use Rattle.draft_form.specs.Numbers.{Given, At, constants, all_sizes, bound_fresh, all_bound_fresh, after, numbered, all_numbered, laid_list}
 use Rattle.scheme_expand.specs.Rewriting.{Side, OfLibrary, form_cores}
 use Rattle.scheme_expand.specs.Inputs.{IsInput, AreInputs}
-use Rattle.scheme_expand.specs.Programs.{moved, all_moved, outside, placed, symbol_list, symbols_of, trees_of, literals_of, Library, library_of, library_forms, library_scope, as_list, chosen, program_scope, own_names, starts, started, drafts_with, IsNumbered}
+use Rattle.draft_form.specs.Quoted.{symbol_list}
+use Rattle.scheme_expand.specs.Programs.{moved, all_moved, outside, placed, symbols_of, trees_of, literals_of, Library, library_of, library_forms, library_scope, as_list, chosen, program_scope, own_names, starts, started, drafts_with, IsNumbered}
 use Rattle.scheme_expand.proofs.GoodCores.{GoodForm, GoodForms, forms_then, good_forms}
-use Rattle.scheme_expand.proofs.Laying.{LaidList, Numbered, numbered_split, laid_list_is, laid_list-length}
-use Rattle.scheme_expand.proofs.Whole.{AreWhole, whole, whole_join, all_counted}
-use Rattle.scheme_expand.proofs.Fine.{fine}
+use Rattle.draft_form.proofs.Laying.{LaidList, Numbered, numbered_split, laid_list_is, laid_list-length}
+use Rattle.scheme_expand.proofs.ConstantsInOrder.{AreWhole, whole, whole_join, all_counted}
+use Rattle.scheme_expand.proofs.GoodDraftsAreValid.{fine}
 use Rattle.scheme_expand.proofs.Unbroken.{unbroken_sound}
 
 -- Forms
@@ -110,18 +110,18 @@ numbered_valid es core h typed few n =
 
 mutual
   moved_input : (p : Pos) (d : Datum) → IsInput d → IsInput (moved p d)
-  moved_input p (Single q a) h = h
-  moved_input p (Chain q is) h = all_moved_input p is h
-  moved_input p (Dotted q is d) h = (all_moved_input p is h.0, moved_input p d h.1)
-  moved_input p (Row q is) h = all_moved_input p is h
+  moved_input p (datum.Atomic q a) h = h
+  moved_input p (datum.List q is) h = all_moved_input p is h
+  moved_input p (datum.Dotted q is d) h = (all_moved_input p is h.0, moved_input p d h.1)
+  moved_input p (datum.Vector q is) h = all_moved_input p is h
 
   all_moved_input : (p : Pos) (ds : Items) → AreInputs ds → AreInputs (all_moved p ds)
   all_moved_input p no_datum h = tt
-  all_moved_input p (datum d ds) h = (moved_input p d h.0, all_moved_input p ds h.1)
+  all_moved_input p (datum_before d ds) h = (moved_input p d h.0, all_moved_input p ds h.1)
 
 placed_input : (k : ℕ) (ds : Items) → AreInputs ds → AreInputs (placed k ds)
 placed_input k no_datum h = tt
-placed_input k (datum d ds) h = (moved_input (outside k) d h.0, placed_input (suc k) ds h.1)
+placed_input k (datum_before d ds) h = (moved_input (outside k) d h.0, placed_input (suc k) ds h.1)
 
 either_good : (b : Bool) (e : Draft) (es : Drafts) → GoodForm e → GoodForms es → GoodForms (if b then item e es else es)
 either_good true e es h k = (h, k)

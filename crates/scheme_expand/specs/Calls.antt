@@ -8,9 +8,9 @@ use Rattle.scheme_base.specs.declared.pos.Pos.{Pos}
 use Rattle.scheme_base.specs.declared.op.Op.{Op}
 use Rattle.scheme_base.specs.declared.op.Op.TheVariants as op
 use Rattle.scheme_base.specs.Operands.{name_of, operands_of}
-use Rattle.scheme_base.specs.Constants.{Integer as Number, Boolean as Truth, Nil as Empty}
+use Rattle.scheme_base.specs.Constants.{Constant as constant}
 use Rattle.scheme_expand.specs.Grammar.{Reading, form, begun}
-use Rattle.scheme_expand.specs.Drafts.{Name, Draft, Drafts, Fresh, Const, Symbols, Ref, Lambda, If, Call, Prim, none, item}
+use Rattle.draft_form.specs.Drafts.{Name, Draft, Drafts, Fresh, Const, Symbols, Ref, Lambda, If, Call, Prim, none, item}
 
 abbrev pub count : Drafts → ℕ
 count none = 0
@@ -23,7 +23,7 @@ abbrev pub two : Draft → Draft → Drafts
 two d e = item d (one e)
 
 abbrev pub truth : Pos → Bool → Draft
-truth p b = Const p (Truth b)
+truth p b = Const p (constant.Boolean b)
 
 abbrev pub negation : Pos → Draft → Draft
 negation p e = If p e (truth p false) (truth p true)
@@ -45,13 +45,13 @@ folded p o e (t ∷ ts) = folded p o (Prim p o (two e t)) ts
 
 -- `+` and `*`, which give this number without operands
 abbrev pub sum : Pos → Op → (nothing : ℕ) → List Draft → Draft
-sum p o n [] = Const p (Number (pos n))
-sum p o n (t ∷ []) = Prim p o (two (Const p (Number (pos n))) t)
+sum p o n [] = Const p (constant.Integer (pos n))
+sum p o n (t ∷ []) = Prim p o (two (Const p (constant.Integer (pos n))) t)
 sum p o n (t ∷ ts) = folded p o t ts
 
 -- `-` of at least one operand
 abbrev pub difference : Pos → Draft → List Draft → Draft
-difference p t [] = Prim p op.Subtract (two (Const p (Number (pos 0))) t)
+difference p t [] = Prim p op.Subtract (two (Const p (constant.Integer (pos 0))) t)
 difference p t ts = folded p op.Subtract t ts
 
 pub data Comparison : Type 0 where
@@ -70,7 +70,7 @@ compared p c d e [] = comparison p c d e
 compared p c d e (f ∷ fs) = If p (comparison p c d e) (compared p c e f fs) (truth p false)
 
 abbrev pub listed : Pos → List Draft → Draft
-listed p [] = Const p Empty
+listed p [] = Const p constant.Nil
 listed p (t ∷ ts) = Prim p op.Cons (two t (listed p ts))
 
 -- what a procedure does with any operands, if it takes so many

@@ -24,45 +24,17 @@ use Rattle.std.specs.Prelude.{ℕ, zero, suc, List, [], ◌∷◌, Option, Some,
 use Rattle.std.specs.List.{list_any}
 use Rattle.std.specs.Str.{bytes_eq}
 use Rattle.scheme_base.specs.declared.pos.Pos.{Pos}
-use Rattle.scheme_base.specs.Constants.{Constant, Integer as Number, Boolean as Truth, Character as Letter, Nil as Empty, String as Words, Pair as Couple, Constants}
-use Rattle.scheme_base.specs.Constants.Constant.{Symbol, Vector as Sequence}
-use Rattle.scheme_base.specs.Constants.Constants.{none as no_constant, item as constant_before}
-use Rattle.datum_form.specs.Syntax.{Atom}
-use Rattle.datum_form.specs.Syntax.Atom.{Integer, Boolean, Character, Text, Name}
-use Rattle.datum_form.specs.Data.{Datum, Items}
-use Rattle.datum_form.specs.Data.Datum.{Single, Chain, Dotted, Row}
+use Rattle.scheme_base.specs.Constants.{Constant, Constant as constant}
+use Rattle.datum_form.specs.declared.token.Atom.TheVariants.{Symbol}
+use Rattle.datum_form.specs.Data.{Datum, Datum as datum, Items}
 use Rattle.datum_form.specs.Data.Items.{none, item}
 use Rattle.quasi_expand.specs.Shapes.{are_clauses, is_case, is_list_of, is_name, is_none, is_step, is_word}
+use Rattle.draft_form.specs.Quoted.{atom, constant_of, constants}
 use Rattle.scheme_expand.specs.Forms.{Word, Exp, Exps, Bindings, Body, Clauses, Cases, Steps, Template, Forms, Wrong, Value, Variable, Application, Procedure, OneArmed, TwoArmed, Assignment, Cond, Case, And, Or, Let, LetStar, Letrec, Begin, Do, Named, Quasi, no_exp, exp, no_binding, binding, broken, Of, no_clause, otherwise, value, clause, passing, no_case, others, one_of, no_step, fixed, stepped, Plain, Unquoted, Spliced, Pair, Vector, no_form, evaluated, defining}
-
--- Literals
-
-abbrev pub atom : Atom → Constant
-atom (Integer z) = Number z
-atom (Boolean b) = Truth b
-atom (Character byte) = Letter byte
-atom (Text bytes) = Words bytes
-atom (Name x) = Symbol x
-
-abbrev mutual
-  pub constant : Datum → Constant
-  constant (Single p a) = atom a
-  constant (Chain p is) = constant_list is Empty
-  constant (Dotted p is d) = constant_list is (constant d)
-  constant (Row p is) = Sequence (constants is)
-
-  -- these items before a tail
-  pub constant_list : Items → Constant → Constant
-  constant_list none c = c
-  constant_list (item d ds) c = Couple (constant d) (constant_list ds c)
-
-  pub constants : Items → Constants
-  constants none = no_constant
-  constants (item d ds) = constant_before (constant d) (constants ds)
 
 abbrev pub each_constant : Items → List Constant
 each_constant none = []
-each_constant (item d ds) = constant d ∷ each_constant ds
+each_constant (item d ds) = constant_of d ∷ each_constant ds
 
 -- Words
 
@@ -70,7 +42,7 @@ abbrev pub word : Pos → List ℕ → Word
 word p x = record { place = p; name = x }
 
 abbrev pub word_of : Datum → Option Word
-word_of (Single p (Name x)) = Some (word p x)
+word_of (datum.Atomic p (Symbol x)) = Some (word p x)
 word_of d = None
 
 abbrev pub are_names : Items → Bool
@@ -93,26 +65,26 @@ twice (w ∷ ws) = list_any (λ v. bytes_eq w.name v.name) ws || twice ws
 -- Shapes
 
 abbrev pub are_formals : Datum → Bool
-are_formals (Single p a) = is_name (Single p a)
-are_formals (Chain p is) = are_names is
-are_formals (Dotted p is d) = are_names is && is_name d
-are_formals (Row p is) = false
+are_formals (datum.Atomic p a) = is_name (datum.Atomic p a)
+are_formals (datum.List p is) = are_names is
+are_formals (datum.Dotted p is d) = are_names is && is_name d
+are_formals (datum.Vector p is) = false
 
 abbrev pub params_of : Datum → List Word
-params_of (Single p a) = []
-params_of (Chain p is) = words is
-params_of (Dotted p is d) = words is
-params_of (Row p is) = []
+params_of (datum.Atomic p a) = []
+params_of (datum.List p is) = words is
+params_of (datum.Dotted p is d) = words is
+params_of (datum.Vector p is) = []
 
 abbrev pub rest_of : Datum → Option Word
-rest_of (Single p a) = word_of (Single p a)
-rest_of (Chain p is) = None
-rest_of (Dotted p is d) = word_of d
-rest_of (Row p is) = None
+rest_of (datum.Atomic p a) = word_of (datum.Atomic p a)
+rest_of (datum.List p is) = None
+rest_of (datum.Dotted p is d) = word_of d
+rest_of (datum.Vector p is) = None
 
 -- a name and an expression
 abbrev pub is_binding : Datum → Bool
-is_binding (Chain p (item (Single q (Name x)) (item e none))) = true
+is_binding (datum.List p (item (datum.Atomic q (Symbol x)) (item e none))) = true
 is_binding d = false
 
 -- the items after the first of a clause are `=>` and one expression, if `=>` is there
@@ -124,22 +96,22 @@ passes none = true
 
 -- a clause of a `cond`, the last one or not
 abbrev pub is_clause : (last : Bool) → Datum → Bool
-is_clause last (Chain p (item d ds)) =
+is_clause last (datum.List p (item d ds)) =
     if is_word (codes "else") d then last && not (is_none ds) else passes ds
 is_clause last d = false
 
 -- a definition, broken or not
 abbrev pub is_define : Datum → Bool
-is_define (Chain p (item d ds)) = is_word (codes "define") d
-is_define (Dotted p (item d ds) e) = is_word (codes "define") d
+is_define (datum.List p (item d ds)) = is_word (codes "define") d
+is_define (datum.Dotted p (item d ds) e) = is_word (codes "define") d
 is_define d = false
 
 -- a definition, or a `begin` of definitions
 abbrev mutual
   pub is_definition : Datum → Bool
-  is_definition (Chain p (item d ds)) =
+  is_definition (datum.List p (item d ds)) =
       is_word (codes "define") d || is_word (codes "begin") d && are_definitions ds
-  is_definition (Dotted p (item d ds) e) = is_word (codes "define") d
+  is_definition (datum.Dotted p (item d ds) e) = is_word (codes "define") d
   is_definition d = false
 
   pub are_definitions : Items → Bool
@@ -237,7 +209,7 @@ cond_clause false arrow test (exp e es) cs = clause test (exp e es) cs
 
 abbrev pub case_clause : (is_else : Bool) → Datum → Exps → Cases → Cases
 case_clause true d es cs = others es
-case_clause false (Chain p is) es cs = one_of (each_constant is) es cs
+case_clause false (datum.List p is) es cs = one_of (each_constant is) es cs
 case_clause false d es cs = cs
 
 abbrev pub is_arrow : Items → Bool
@@ -247,17 +219,17 @@ is_arrow (item d ds) = is_word (codes "=>") d
 -- Templates whose parts are known
 
 -- a pair is a literal where its parts are
-abbrev pub couple : Template → Template → Template
-couple (Plain c) (Plain d) = Plain (Couple c d)
-couple s t = Pair s t
+abbrev pub pair_of : Template → Template → Template
+pair_of (Plain c) (Plain d) = Plain (constant.Pair c d)
+pair_of s t = Pair s t
 
-abbrev pub row : Constant → (items : Template) → Template
-row c (Plain d) = Plain c
-row c t = Vector t
+abbrev pub vector_of : Constant → (items : Template) → Template
+vector_of c (Plain d) = Plain c
+vector_of c t = Vector t
 
 -- the list of a word and a template
 abbrev pub marked : List ℕ → Template → Template
-marked x t = couple (Plain (Symbol x)) (couple t (Plain Empty))
+marked x t = pair_of (Plain (constant.Symbol x)) (pair_of t (Plain constant.Nil))
 
 -- an unquoted expression, which is a template at the level below if there is one
 abbrev pub unquoted : ℕ → Exp → (ℕ → Template) → Template
@@ -266,7 +238,7 @@ unquoted (suc n) e t = marked (codes "unquote") (t n)
 
 abbrev pub spliced : ℕ → Exp → (ℕ → Template) → (rest : Template) → Template
 spliced zero e t rest = Spliced e rest
-spliced (suc n) e t rest = couple (marked (codes "unquote-splicing") (t n)) rest
+spliced (suc n) e t rest = pair_of (marked (codes "unquote-splicing") (t n)) rest
 
 -- Expressions
 
@@ -280,17 +252,17 @@ begun x [] e = e
 begun x (form y f ∷ fs) e = if bytes_eq x y then f else begun x fs e
 
 abbrev pub quote_form : Pos → Items → Exp
-quote_form p (item d none) = Value p (constant d)
+quote_form p (item d none) = Value p (constant_of d)
 quote_form p ds = Wrong p 2
 
 abbrev mutual
   pub expr : Datum → Exp
-  expr (Single p (Name x)) = Variable (word p x)
-  expr (Single p a) = Value p (atom a)
-  expr (Row p is) = Wrong p 15
-  expr (Dotted p is d) = Wrong p 10
-  expr (Chain p none) = Wrong p 13
-  expr (Chain p (item (Single q (Name x)) ds)) =
+  expr (datum.Atomic p (Symbol x)) = Variable (word p x)
+  expr (datum.Atomic p a) = Value p (atom a)
+  expr (datum.Vector p is) = Wrong p 15
+  expr (datum.Dotted p is d) = Wrong p 10
+  expr (datum.List p none) = Wrong p 13
+  expr (datum.List p (item (datum.Atomic q (Symbol x)) ds)) =
       begun x
       (form (codes "quote") (quote_form p ds)
       ∷ form (codes "quasiquote") (quasi_form p ds)
@@ -312,7 +284,7 @@ abbrev mutual
       ∷ form (codes "delay") (Wrong p 16)
       ∷ [])
       (Application p (Variable (word q x)) (exprs ds))
-  expr (Chain p (item d ds)) = Application p (expr d) (exprs ds)
+  expr (datum.List p (item d ds)) = Application p (expr d) (exprs ds)
 
   pub exprs : Items → Exps
   exprs none = no_exp
@@ -328,7 +300,7 @@ abbrev mutual
   if_form p ds = Wrong p 5
 
   pub set_form : Pos → Items → Exp
-  set_form p (item (Single q (Name x)) (item e none)) = Assignment p (word q x) (expr e)
+  set_form p (item (datum.Atomic q (Symbol x)) (item e none)) = Assignment p (word q x) (expr e)
   set_form p ds = Wrong p 5
 
   pub begin_form : Pos → Items → Exp
@@ -341,8 +313,8 @@ abbrev mutual
 
   pub let_form : Pos → Items → Exp
   let_form p none = Wrong p 4
-  let_form p (item (Single q (Name x)) none) = Wrong p 4
-  let_form p (item (Single q (Name x)) (item d ds)) = named_of p (word q x) d ds (bindings d) (body ds)
+  let_form p (item (datum.Atomic q (Symbol x)) none) = Wrong p 4
+  let_form p (item (datum.Atomic q (Symbol x)) (item d ds)) = named_of p (word q x) d ds (bindings d) (body ds)
   let_form p (item d ds) = let_of p d ds (bindings d) (body ds)
 
   pub let_star_form : Pos → Items → Exp
@@ -354,7 +326,7 @@ abbrev mutual
   letrec_form p (item d ds) = letrec_of p d ds (bindings d) (body ds)
 
   pub do_form : Pos → Items → Exp
-  do_form p (item d (item (Chain q (item e es)) ds)) = do_of p d (steps d) (expr e) (exprs es) (exprs ds)
+  do_form p (item d (item (datum.List q (item e es)) ds)) = do_of p d (steps d) (expr e) (exprs es) (exprs ds)
   do_form p ds = Wrong p 9
 
   pub quasi_form : Pos → Items → Exp
@@ -367,7 +339,7 @@ abbrev mutual
   clauses (item d ds) = clause_before d (clauses ds)
 
   pub clause_before : Datum → Clauses → Clauses
-  clause_before (Chain p (item d ds)) cs = cond_clause (is_word (codes "else") d) (is_arrow ds) (expr d) (exprs ds) cs
+  clause_before (datum.List p (item d ds)) cs = cond_clause (is_word (codes "else") d) (is_arrow ds) (expr d) (exprs ds) cs
   clause_before d cs = cs
 
   -- the clauses of a `case`
@@ -376,11 +348,11 @@ abbrev mutual
   cases (item d ds) = case_before d (cases ds)
 
   pub case_before : Datum → Cases → Cases
-  case_before (Chain p (item d ds)) cs = case_clause (is_word (codes "else") d) d (exprs ds) cs
+  case_before (datum.List p (item d ds)) cs = case_clause (is_word (codes "else") d) d (exprs ds) cs
   case_before d cs = cs
 
   pub bindings : Datum → Bindings
-  bindings (Chain p is) = binding_list is
+  bindings (datum.List p is) = binding_list is
   bindings d = no_binding
 
   pub binding_list : Items → Bindings
@@ -388,11 +360,11 @@ abbrev mutual
   binding_list (item d ds) = binding_before d (binding_list ds)
 
   pub binding_before : Datum → Bindings → Bindings
-  binding_before (Chain p (item (Single q (Name x)) (item e none))) bs = binding p (word q x) (expr e) bs
+  binding_before (datum.List p (item (datum.Atomic q (Symbol x)) (item e none))) bs = binding p (word q x) (expr e) bs
   binding_before d bs = bs
 
   pub steps : Datum → Steps
-  steps (Chain p is) = step_list is
+  steps (datum.List p is) = step_list is
   steps d = no_step
 
   pub step_list : Items → Steps
@@ -400,8 +372,8 @@ abbrev mutual
   step_list (item d ds) = step_before d (step_list ds)
 
   pub step_before : Datum → Steps → Steps
-  step_before (Chain p (item (Single q (Name x)) (item e none))) ss = fixed (word q x) (expr e) ss
-  step_before (Chain p (item (Single q (Name x)) (item e (item f none)))) ss =
+  step_before (datum.List p (item (datum.Atomic q (Symbol x)) (item e none))) ss = fixed (word q x) (expr e) ss
+  step_before (datum.List p (item (datum.Atomic q (Symbol x)) (item e (item f none)))) ss =
       stepped (word q x) (expr e) (expr f) ss
   step_before d ss = ss
 
@@ -413,9 +385,9 @@ abbrev mutual
 
   -- the definitions of a datum that is one, or a `begin` of some, before others
   pub definitions_before : Datum → Bindings → Bindings
-  definitions_before (Chain p (item d ds)) bs =
+  definitions_before (datum.List p (item d ds)) bs =
       if is_word (codes "define") d then definition p ds bs else each_definition ds bs
-  definitions_before (Dotted p is d) bs = broken p 10 bs
+  definitions_before (datum.Dotted p is d) bs = broken p 10 bs
   definitions_before d bs = bs
 
   pub each_definition : Items → Bindings → Bindings
@@ -423,29 +395,29 @@ abbrev mutual
   each_definition (item d ds) bs = definitions_before d (each_definition ds bs)
 
   pub definition : Pos → Items → Bindings → Bindings
-  definition p (item (Single q (Name x)) (item e none)) bs = binding p (word q x) (expr e) bs
-  definition p (item (Chain q (item (Single r (Name x)) fs)) ds) bs =
+  definition p (item (datum.Atomic q (Symbol x)) (item e none)) bs = binding p (word q x) (expr e) bs
+  definition p (item (datum.List q (item (datum.Atomic r (Symbol x)) fs)) ds) bs =
       procedure_binding p (word r x) (are_names fs) (words fs) None ds (body ds) bs
-  definition p (item (Dotted q (item (Single r (Name x)) fs) d) ds) bs =
+  definition p (item (datum.Dotted q (item (datum.Atomic r (Symbol x)) fs) d) ds) bs =
       procedure_binding p (word r x) (are_names fs && is_name d) (words fs) (word_of d) ds (body ds) bs
   definition p ds bs = broken p 11 bs
 
   -- a template in so many others
   pub template : Datum → ℕ → Template
-  template (Single p a) n = Plain (atom a)
-  template (Chain p is) n = template_list is n
-  template (Dotted p is d) n = templates_before is n (template d n)
-  template (Row p is) n = row (Sequence (constants is)) (template_list is n)
+  template (datum.Atomic p a) n = Plain (atom a)
+  template (datum.List p is) n = template_list is n
+  template (datum.Dotted p is d) n = templates_before is n (template d n)
+  template (datum.Vector p is) n = vector_of (constant.Vector (constants is)) (template_list is n)
 
   -- a list; its last two items can be a word and what it marks
   pub template_list : Items → ℕ → Template
-  template_list none n = Plain Empty
-  template_list (item (Single p (Name x)) (item e none)) n =
+  template_list none n = Plain constant.Nil
+  template_list (item (datum.Atomic p (Symbol x)) (item e none)) n =
       begun x
       (form (codes "unquote") (unquoted n (expr e) (template e))
       ∷ form (codes "quasiquote") (marked (codes "quasiquote") (template e (suc n)))
       ∷ [])
-      (couple (Plain (Symbol x)) (template_before e n (template e n) (Plain Empty)))
+      (pair_of (Plain (constant.Symbol x)) (template_before e n (template e n) (Plain constant.Nil)))
   template_list (item d ds) n = template_before d n (template d n) (template_list ds n)
 
   pub templates_before : Items → ℕ → Template → Template
@@ -454,9 +426,9 @@ abbrev mutual
 
   -- an item, which is this template unless it is spliced, before the rest of its list
   pub template_before : Datum → ℕ → Template → (rest : Template) → Template
-  template_before (Chain p (item (Single q (Name x)) (item e none))) n t rest =
-      if bytes_eq x (codes "unquote-splicing") then spliced n (expr e) (template e) rest else couple t rest
-  template_before d n t rest = couple t rest
+  template_before (datum.List p (item (datum.Atomic q (Symbol x)) (item e none))) n t rest =
+      if bytes_eq x (codes "unquote-splicing") then spliced n (expr e) (template e) rest else pair_of t rest
+  template_before d n t rest = pair_of t rest
 
 -- Programs
 

@@ -14,7 +14,7 @@ use Rattle.core_form.specs.declared.program.Program.{Program}
 use Rattle.core_form.specs.Trees.{Trees, Holds}
 use Rattle.core_form.specs.Valid.{all_bound}
 use Rattle.scheme_expand.specs.Faults.{in_forms}
-use Rattle.scheme_expand.specs.Drafts.{Draft, Define, Lambda, Prim, Part, parts}
+use Rattle.draft_form.specs.Drafts.{Draft, Define, Lambda, Prim, Part, parts}
 use Rattle.scheme_expand.specs.Rewriting.{has_name}
 use Rattle.scheme_expand.specs.Programs.{library_of, library_forms, libraries}
 

@@ -2,12 +2,8 @@ pub mod Forms
 pub mod Grammar
 pub mod Inputs
 pub mod Laws
-pub mod Numbers
 pub mod Programs
 pub mod Rewriting
 pub mod Calls
-pub mod Drafts
 pub mod Faults
-pub mod Written
-pub mod Growing
 pub mod Noted

@@ -3,8 +3,8 @@ use Rattle.std.specs.Prelude.{ℕ, Option, Some, None, Bool, true}
 use Rattle.scheme_expand.specs.declared.fault.Fault.{Fault as Noted}
 use Rattle.scheme_expand.specs.declared.fault.Rule.{Rule}
 use Rattle.scheme_expand.specs.declared.fault.Rule.TheVariants as rule
-use Rattle.scheme_expand.specs.declared.draft.Variable.{Variable}
-use Rattle.scheme_expand.specs.declared.draft.Variable.TheVariants.{Local, Top, Library}
+use Rattle.draft_form.specs.declared.draft.Variable.{Variable}
+use Rattle.draft_form.specs.declared.draft.Variable.TheVariants.{Local, Top, Library}
 use Rattle.scheme_expand.specs.Faults.{Fault, fault}
 
 abbrev pub number_of : Rule → ℕ

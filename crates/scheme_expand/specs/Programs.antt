@@ -4,16 +4,14 @@ use Rattle.std.specs.Prelude.{ℕ, suc, ◌≡◌, List, [], ◌∷◌, ◌++◌
 use Rattle.std.specs.Str.{bytes_eq, byte}
 use Rattle.scheme_base.specs.declared.pos.Pos.{Pos}
 use Rattle.scheme_base.specs.declared.lit.Lit.{Lit}
-use Rattle.scheme_base.specs.Constants.{Constant, Constants, Nil as Empty, Pair as Couple}
-use Rattle.scheme_base.specs.Constants.Constant.{Symbol, Vector as Sequence}
+use Rattle.scheme_base.specs.Constants.{Constant, Constant as constant, Constants}
 use Rattle.scheme_base.specs.Constants.Constants.{none as no_constant, item as constant_before}
 use Rattle.prelude_text.specs.Text.{library_text}
 use Rattle.prelude_text.specs.Closure.{closure, has}
 use Rattle.datum_form.specs.declared.error.FormErr.{FormErr}
 use Rattle.datum_form.specs.declared.error.FormErr.TheVariants.{Broken, NoMemory}
-use Rattle.datum_form.specs.Data.{Datum, Items}
-use Rattle.datum_form.specs.Data.Datum.{Single, Chain, Dotted, Row}
-use Rattle.datum_form.specs.Data.Items.{none as no_datum, item as datum}
+use Rattle.datum_form.specs.Data.{Datum, Datum as datum, Items}
+use Rattle.datum_form.specs.Data.Items.{none as no_datum, item as datum_before}
 use Rattle.datum_reader.specs.Answer.{Reads}
 use Rattle.core_form.specs.declared.program.Var.{Var}
 use Rattle.core_form.specs.declared.program.Program.{Program}
@@ -21,22 +19,23 @@ use Rattle.core_form.specs.Trees.{Trees, Holds}
 use Rattle.scheme_expand.specs.Forms.{Forms, Bindings, no_binding, binding, broken, no_form, evaluated, defining}
 use Rattle.scheme_expand.specs.Grammar.{forms}
 use Rattle.scheme_expand.specs.Faults.{Fault, least, in_forms}
-use Rattle.scheme_expand.specs.Drafts.{Draft, Drafts, Part, Top, Library as Lib, Ref, Define, none, item, ◌then◌, Held, Referred, Changed, parts, all_parts}
+use Rattle.draft_form.specs.Drafts.{Draft, Drafts, Part, Top, Library as Lib, Ref, Define, none, item, ◌then◌, Held, Referred, Changed, parts, all_parts}
 use Rattle.scheme_expand.specs.Rewriting.{OfLibrary, OfProgram, Scope, has_name, form_cores}
-use Rattle.scheme_expand.specs.Numbers.{constants, laid_list, all_numbered}
+use Rattle.draft_form.specs.Numbers.{constants, laid_list, all_numbered}
+use Rattle.draft_form.specs.Quoted.{symbol_list}
 
 -- Data moved to a place
 
 abbrev mutual
   pub moved : Pos → Datum → Datum
-  moved p (Single q a) = Single p a
-  moved p (Chain q is) = Chain p (all_moved p is)
-  moved p (Dotted q is d) = Dotted p (all_moved p is) (moved p d)
-  moved p (Row q is) = Row p (all_moved p is)
+  moved p (datum.Atomic q a) = datum.Atomic p a
+  moved p (datum.List q is) = datum.List p (all_moved p is)
+  moved p (datum.Dotted q is d) = datum.Dotted p (all_moved p is) (moved p d)
+  moved p (datum.Vector q is) = datum.Vector p (all_moved p is)
 
   pub all_moved : Pos → Items → Items
   all_moved p no_datum = no_datum
-  all_moved p (datum d ds) = datum (moved p d) (all_moved p ds)
+  all_moved p (datum_before d ds) = datum_before (moved p d) (all_moved p ds)
 
 -- column k of no line
 abbrev pub outside : ℕ → Pos
@@ -45,7 +44,7 @@ outside k = record { line = 0; col = k }
 -- definition k of the library is at 0:k
 abbrev pub placed : (k : ℕ) → Items → Items
 placed k no_datum = no_datum
-placed k (datum d ds) = datum (moved (outside k) d) (placed (suc k) ds)
+placed k (datum_before d ds) = datum_before (moved (outside k) d) (placed (suc k) ds)
 
 -- Names and parts
 
@@ -81,9 +80,9 @@ changed (part ∷ found) = changed found
 
 abbrev mutual
   pub symbols_in : Constant → List (List ℕ)
-  symbols_in (Symbol x) = x ∷ []
-  symbols_in (Couple c d) = symbols_in c ++ symbols_in d
-  symbols_in (Sequence cs) = all_symbols_in cs
+  symbols_in (constant.Symbol x) = x ∷ []
+  symbols_in (constant.Pair c d) = symbols_in c ++ symbols_in d
+  symbols_in (constant.Vector cs) = all_symbols_in cs
   symbols_in c = []
 
   pub all_symbols_in : Constants → List (List ℕ)
@@ -94,11 +93,6 @@ abbrev pub symbols : List Part → List (List ℕ)
 symbols [] = []
 symbols (Held c ∷ found) = symbols_in c ++ symbols found
 symbols (part ∷ found) = symbols found
-
--- the list of symbols of these names
-abbrev pub symbol_list : List (List ℕ) → Constant
-symbol_list [] = Empty
-symbol_list (x ∷ xs) = Couple (Symbol x) (symbol_list xs)
 
 -- The library
 

@@ -6,10 +6,10 @@ use Rattle.std.specs.List.{list_any}
 use Rattle.std.specs.Str.{bytes_eq}
 use Rattle.scheme_base.specs.declared.pos.Pos.{Pos}
 use Rattle.scheme_base.specs.declared.op.Op.TheVariants as op
-use Rattle.scheme_base.specs.Constants.{Constant, Unspecified as Unnamed, Undefined as Hole}
+use Rattle.scheme_base.specs.Constants.{Constant, Constant as constant}
 use Rattle.scheme_expand.specs.Forms.{Word, Exp, Exps, Bindings, Body, Clauses, Cases, Steps, Template, Forms, Wrong, Value, Variable, Application, Procedure, OneArmed, TwoArmed, Assignment, Cond, Case, And, Or, Let, LetStar, Letrec, Begin, Do, Named, Quasi, no_exp, exp, no_binding, binding, broken, Of, no_clause, otherwise, value, clause, passing, no_case, others, one_of, no_step, fixed, stepped, Plain, Unquoted, Spliced, Pair, Vector, no_form, evaluated, defining}
 use Rattle.scheme_expand.specs.Grammar.{bound_words, step_words}
-use Rattle.scheme_expand.specs.Drafts.{Name, Draft, Drafts, Local, Fresh, Top, Library, Const, Ref, Lambda, If, Set, Call, Prim, Seq, Fix, Define, none, item, ◌then◌, parts, all_parts, changes}
+use Rattle.draft_form.specs.Drafts.{Name, Draft, Drafts, Local, Fresh, Top, Library, Const, Ref, Lambda, If, Set, Call, Prim, Seq, Fix, Define, none, item, ◌then◌, parts, all_parts, changes}
 use Rattle.scheme_expand.specs.Calls.{one, two, truth, integrated}
 
 -- Scopes
@@ -76,7 +76,7 @@ names ws = map (λ w. w.name) ws
 -- What rewrites make
 
 abbrev pub unspecified : Pos → Draft
-unspecified p = Const p Unnamed
+unspecified p = Const p constant.Unspecified
 
 -- a direct call of a lambda expression with variables of these names
 abbrev pub let_names : Pos → Scope → List (List ℕ) → (Scope → Draft) → Drafts → Draft
@@ -96,7 +96,7 @@ sequence p es = Seq p es
 
 abbrev pub undefined : Pos → List (List ℕ) → Drafts
 undefined p [] = none
-undefined p (x ∷ xs) = item (Const p Hole) (undefined p xs)
+undefined p (x ∷ xs) = item (Const p constant.Undefined) (undefined p xs)
 
 -- variables from one level on are assigned those from another
 abbrev pub assignments : Pos → (to from : ℕ) → List (List ℕ) → Drafts

@@ -5,7 +5,6 @@ ghost use Rattle.core_form.specs.Text.{HasText};
 
 use crate::assemble::{Expanded, Whole};
 use crate::body::read_definition;
-use crate::draft::Drafts;
 use crate::expander::Expander;
 use crate::fault::Fault;
 use crate::source::Source;
@@ -13,6 +12,7 @@ use crate::words::Words;
 use core_form::Core;
 use datum_form::{Datums, FormErr};
 use datum_reader::read_program;
+use draft_form::Drafts;
 use prelude_text::library;
 use scheme_base::Pos;
 use std::alloc::{AllocError, Global};

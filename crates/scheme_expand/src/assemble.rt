@@ -4,15 +4,13 @@
 ghost use Rattle.std.specs.Prelude.{length, ◌≤◌, OnOk, IfOk, IfSome};
 ghost use Rattle.prelude_text.specs.Closure.{AreNumbers, AreUses};
 ghost use Rattle.core_form.specs.Text.{HasText};
-ghost use Rattle.scheme_expand.specs.Growing.{IsReady};
+ghost use Rattle.draft_form.specs.Growing.{IsReady};
 
-use crate::draft::{Draft, Drafts, Variable};
-use crate::growing::Growing;
-use crate::number::{Names, Text};
 use crate::order::{Symbols, preorder};
 use crate::source::Source;
 use crate::words::Words;
 use core_form::{Core, What};
+use draft_form::{Draft, Drafts, Growing, Levels, Text, Variable};
 use prelude_text::closure_of;
 use scheme_base::{Ids, Pos, Uses};
 use std::alloc::{AllocError, Global};
@@ -141,29 +139,29 @@ impl Whole<'_> {
     ) -> Result<Core, AllocError>
         ensures { IfOk result HasText }
     {
-        let mut names = Names::new(alloc, self.words);
+        let mut levels = Levels::new(alloc);
         let mut growing = Growing::new(alloc);
-        let library = self.library.text(alloc, self.words, symbols);
+        let library = self.library.text(alloc, self.words.all(), symbols);
         for number in reached {
             let form = self.definition(*number)?;
-            library.add_form(form, &mut names, &mut growing)?;
+            library.add_form(form, &mut levels, &mut growing)?;
         }
+        let program = self.program.text(alloc, self.words.all(), symbols);
         for word in own_names {
-            add_own_variable(*word, &names, &mut growing)?;
+            add_own_variable(*word, program, &levels, &mut growing)?;
         }
-        let program = self.program.text(alloc, self.words, symbols);
         for form in self.program.forms {
-            program.add_form(*form, &mut names, &mut growing)?;
+            program.add_form(*form, &mut levels, &mut growing)?;
         }
         Ok(growing.into_core())
     }
 }
 
 impl<'a> Expanded<'a> {
-    fn text(self, alloc: Global, words: &'a Words<'a>, symbols: &'a [u32]) -> Text<'a> {
+    fn text(self, alloc: Global, words: &'a [&'a [u8]], symbols: &'a [u32]) -> Text<'a> {
         Text {
             alloc,
-            source: self.source,
+            nodes: self.source.nodes,
             drafts: self.drafts,
             words,
             symbols,
@@ -172,12 +170,17 @@ impl<'a> Expanded<'a> {
 }
 
 /// A variable of the program's own of a public name, which starts with the library's value.
-fn add_own_variable(word: u32, names: &Names, growing: &mut Growing) -> Result<(), AllocError>
+fn add_own_variable(
+    word: u32,
+    text: Text,
+    levels: &Levels,
+    growing: &mut Growing,
+) -> Result<(), AllocError>
     ensures { OnOk result (IsReady growing.old → IsReady growing.new) }
 {
-    let library = names.var(Variable::Library { word })?;
+    let library = text.var(Variable::Library { word }, levels)?;
     growing.add(What::Ref(library), NOWHERE)?;
-    let var = names.var(Variable::Top { word })?;
+    let var = text.var(Variable::Top { word }, levels)?;
     let value = growing.take()?;
     growing.add(What::Define { var, value }, NOWHERE)?;
     growing.add_form()
@@ -222,7 +225,7 @@ fn used(
 }
 
 /// Adds the number of the definition of a name, if it is one of so many.
-#[tactic(auto, using(crate::proofs::Used::number_added))]
+#[tactic(auto, using(crate::proofs::NumbersBehind::number_added))]
 fn add_number(
     numbers: &[Option<u32>],
     word: u32,

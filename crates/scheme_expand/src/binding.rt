@@ -1,12 +1,12 @@
 //! The forms that bind variables (R4RS 4.2.2 and 4.2.4).
 
 use crate::body::{Body, read_body};
-use crate::draft::Variable;
 use crate::expander::Expander;
 use crate::fault::Rule;
 use crate::source::Source;
 use crate::step::Step;
 use crate::words::Keyword;
+use draft_form::Variable;
 use quasi_expand::{DoBinding, do_binding, read_do};
 use scheme_base::Pos;
 use std::alloc::{AllocError, Global};

@@ -3,11 +3,11 @@
 use crate::expander::Expander;
 use crate::fault::Rule;
 use crate::formals::{Formals, read_formals, read_params};
-use crate::order::push_reversed;
 use crate::source::Source;
 use crate::step::Step;
 use crate::words::Keyword;
 use datum_form::Kind;
+use draft_form::push_reversed;
 use scheme_base::Pos;
 use std::alloc::{AllocError, Global};
 

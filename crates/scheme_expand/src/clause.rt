@@ -1,11 +1,11 @@
 //! `cond` and `case` (R4RS 4.2.1), whose clauses are expanded from the last to the first.
 
-use crate::draft::Variable;
 use crate::expander::Expander;
 use crate::fault::Rule;
 use crate::source::Source;
 use crate::step::Step;
 use crate::words::Keyword;
+use draft_form::Variable;
 use quasi_expand::{case_clause, read_case};
 use scheme_base::Pos;
 use std::alloc::AllocError;

@@ -4,12 +4,12 @@ ghost use Rattle.std.specs.Prelude.{◌≡◌, slice_get};
 ghost use Rattle.scheme_expand.specs.Faults.{fault, least_of};
 ghost use Rattle.scheme_expand.specs.Noted.{level_in, meant, noted, number_of};
 
-use crate::draft::{Constant, Drafts, Variable};
 use crate::fault::{Fault, Rule};
 use crate::scope::Scope;
 use crate::source::Source;
 use crate::step::Step;
 use crate::words::Helpers;
+use draft_form::{Constant, Drafts, Variable};
 use scheme_base::{Ids, Pos};
 use std::alloc::{AllocError, Global};
 

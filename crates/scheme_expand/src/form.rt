@@ -1,11 +1,11 @@
 //! Which form a datum is, and the forms that bind nothing (R4RS 4.1, 4.2.1, 4.2.3 and 4.2.6).
 
-use crate::draft::{Constant, Variable};
 use crate::expander::Expander;
 use crate::fault::Rule;
 use crate::step::Step;
 use crate::words::{Keyword, known_of};
 use datum_form::Kind;
+use draft_form::{Constant, Variable};
 use quasi_expand::{Part, read_template};
 use scheme_base::Pos;
 use std::alloc::AllocError;

@@ -1,9 +1,9 @@
 //! Calls of the library that become operations at once.
 
-use crate::draft::{Constant, Variable};
 use crate::expander::Expander;
 use crate::words::{Comparison, Known};
 use core_form::What;
+use draft_form::{Constant, Variable};
 use scheme_base::{List, Op, Pos};
 use std::alloc::AllocError;
 

@@ -2,9 +2,9 @@
 //!
 //! `specs/` says which core some data are, in three steps. `Grammar` reads a datum as a surface form of
 //! `Forms`, or says by which rule it is broken; `Faults` says which fault counts. `Rewriting` says what each
-//! form is rewritten to, as R4RS 7.3 does, where `Drafts` are cores without numbers and `Calls` has the calls of
-//! the library's procedures that become operations. `Numbers` numbers literals and fresh variables. `Programs`
-//! puts the definitions of the library that a program reaches before it, and has `Expands` and `FormFault`.
+//! form is rewritten to, as R4RS 7.3 does, where `Calls` has the calls of the library's procedures that become
+//! operations. What comes out are drafts, and `draft_form` says how they are numbered. `Programs` puts the
+//! definitions of the library that a program reaches before it, and has `Expands` and `FormFault`.
 //!
 //! `one_expansion` is the law that all data have one core or one fault, `valid_core` that the core is valid,
 //! `readable_inputs` that the data of a text can be expanded, and `library_reads` that the library's text is
@@ -12,10 +12,9 @@
 //!
 //! The code numbers all names (`words`, `source`), expands a form by steps that wait on a list, so that neither a
 //! long form nor a deep one takes stack (`step`, `expander`, and by kind of form `form`, `body`, `binding`,
-//! `clause`), makes drafts (`draft`, `make`, `known`) in a scope (`scope`), and notes the first fault (`fault`).
-//! `assemble` chooses the library's definitions, and `number`, `growing` and `literal` make the core. The
-//! contract of `expand` says that its core has a text; that it is the core of `Expands`, and a fault that of
-//! `FormFault`, is tested only.
+//! `clause`), makes drafts (`make`, `known`) in a scope (`scope`), and notes the first fault (`fault`). `assemble`
+//! chooses the library's definitions. The contract of `expand` says that its core has a text; that it is the
+//! core of `Expands`, and a fault that of `FormFault`, is tested only.
 #![tactic(auto)]
 
 mod answer;
@@ -23,17 +22,13 @@ mod assemble;
 mod binding;
 mod body;
 mod clause;
-mod draft;
 mod expander;
 mod fault;
 mod form;
 mod formals;
-mod growing;
 mod known;
 mod law;
-mod literal;
 mod make;
-mod number;
 mod order;
 mod program;
 mod scope;

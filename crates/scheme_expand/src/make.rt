@@ -1,9 +1,9 @@
 //! Expressions from their parts.
 
-use crate::draft::{Constant, Variable};
 use crate::expander::Expander;
 use crate::step::Step;
 use core_form::What;
+use draft_form::{Constant, Variable};
 use quasi_expand::Part;
 use scheme_base::{Ids, List, Op, Pos};
 use std::alloc::AllocError;

@@ -1,9 +1,9 @@
 //! The expressions of a form in the order of its text, and the symbols in it.
 
-use crate::draft::{Constant, Draft, Drafts};
 use crate::source::Source;
 use core_form::What;
 use datum_form::Kind;
+use draft_form::{Constant, Drafts, push_parts, push_reversed};
 use std::alloc::{AllocError, Global};
 
 /// Puts the numbers of a form's expressions, each before its parts, behind others.
@@ -25,35 +25,6 @@ pub(crate) fn preorder(
         }
     }
     Err(AllocError)
-}
-
-/// Puts an expression's parts, the last first, behind others.
-pub(crate) fn push_parts(draft: &Draft, to: &mut Vec<u32>) -> Result<(), AllocError> {
-    match &draft.what {
-        What::Const(_) | What::Ref(_) => {}
-        What::Lambda { body, .. } => to.push(*body)?,
-        What::If { test, yes, no } => to.extend_from_slice(&[*no, *yes, *test])?,
-        What::Set { value, .. } | What::Define { value, .. } => to.push(*value)?,
-        What::Call { operator, operands } => {
-            push_reversed(operands.as_slice(), to)?;
-            to.push(*operator)?;
-        }
-        What::Prim { operands, .. } => push_reversed(operands.as_slice(), to)?,
-        What::Seq { items } => push_reversed(items.as_slice(), to)?,
-        What::Fix { lambdas, body, .. } => {
-            to.push(*body)?;
-            push_reversed(lambdas.as_slice(), to)?;
-        }
-    }
-    Ok(())
-}
-
-/// Puts numbers, the last first, behind others.
-pub(crate) fn push_reversed(ids: &[u32], to: &mut Vec<u32>) -> Result<(), AllocError> {
-    for last in ids.iter().rev() {
-        to.push(*last)?;
-    }
-    Ok(())
 }
 
 /// The numbers of the names that are symbols in constants, in the order in which they first appear.

@@ -3,7 +3,7 @@
 ghost use Rattle.std.specs.Prelude.{◌≡◌, slice_get};
 ghost use Rattle.scheme_expand.specs.Noted.{level_in};
 
-use crate::draft::Variable;
+use draft_form::Variable;
 use std::alloc::{AllocError, Global};
 
 /// A bound variable.

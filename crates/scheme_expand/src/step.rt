@@ -1,7 +1,7 @@
 //! What is still to be done to expand a form.
 
-use crate::draft::Variable;
 use crate::words::Known;
+use draft_form::Variable;
 use quasi_expand::Part;
 use scheme_base::Pos;
 

@@ -2,7 +2,7 @@
 
 use datum_form::{Kind, Node};
 use indexmap::IndexSet;
-use scheme_base::Op;
+use scheme_base::{OPERATIONS, Op};
 use std::alloc::{AllocError, Global};
 
 /// The keywords (R4RS 7.1.1).
@@ -133,50 +133,6 @@ const KNOWN: [(&[u8], Known); 49] = [
     (b"%symbols", Known::Symbols),
 ];
 
-const OPERATIONS: [Op; 41] = [
-    Op::Eqv,
-    Op::IsPair,
-    Op::IsSymbol,
-    Op::IsString,
-    Op::IsVector,
-    Op::IsProcedure,
-    Op::IsInteger,
-    Op::IsChar,
-    Op::IsBoolean,
-    Op::IsNull,
-    Op::IsEof,
-    Op::Cons,
-    Op::Car,
-    Op::Cdr,
-    Op::SetCar,
-    Op::SetCdr,
-    Op::Add,
-    Op::Subtract,
-    Op::Multiply,
-    Op::Quotient,
-    Op::Remainder,
-    Op::Modulo,
-    Op::Equals,
-    Op::Less,
-    Op::CharToInteger,
-    Op::IntegerToChar,
-    Op::SymbolName,
-    Op::MakeSymbol,
-    Op::MakeString,
-    Op::MakeVector,
-    Op::StringLength,
-    Op::VectorLength,
-    Op::StringRef,
-    Op::VectorRef,
-    Op::StringSet,
-    Op::VectorSet,
-    Op::ReadChar,
-    Op::PeekChar,
-    Op::WriteChar,
-    Op::Apply,
-    Op::CallCC,
-];
-
 /// The keyword that the name of this number is.
 pub(crate) fn keyword_of(word: u32) -> Option<Keyword> {
     let (_, keyword) = KEYWORDS.get(word as usize)?;
@@ -238,6 +194,11 @@ impl<'a> Words<'a> {
     /// How many names there are.
     pub(crate) fn len(&self) -> usize {
         self.names.len()
+    }
+
+    /// All names.
+    pub(crate) fn all(&self) -> &[&'a [u8]] {
+        self.names.as_slice()
     }
 
     /// The name of a number.

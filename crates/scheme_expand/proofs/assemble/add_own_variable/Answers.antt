@@ -1,5 +1,5 @@
-use Rattle.scheme_expand.proofs.Written.{on_ok}
-use Rattle.scheme_expand.proofs.Ready.{one_taken}
+use Rattle.draft_form.proofs.LiteralsAdded.{on_ok}
+use Rattle.draft_form.proofs.Ready.{one_taken}
 use Rattle.scheme_expand.proofs.assemble.add_own_variable.Goals as goal
 
 pub returns : goal.returns

@@ -1,5 +1,5 @@
 -- The core stays ready.
-use Rattle.scheme_expand.specs.Growing.{IsReady}
+use Rattle.draft_form.specs.Growing.{IsReady}
 use Rattle.scheme_expand.proofs.assemble.Whole.numbered.Given as goal
 
 abbrev pub invariant-loop-number : goal.invariant-loop-number

@@ -1,5 +1,5 @@
 use Rattle.std.proofs.Common.{[], ◌∷◌, length, length-append, ap, arith}
-use Rattle.scheme_expand.proofs.Used.{use_added}
+use Rattle.scheme_expand.proofs.NumbersBehind.{use_added}
 use Rattle.scheme_expand.proofs.assemble.Whole.uses.Goals as goal
 
 pub loop-form-preserved : goal.loop-form-preserved

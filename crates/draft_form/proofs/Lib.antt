@@ -1,0 +1,11 @@
+pub mod Building
+pub mod Closing
+pub mod Ends
+pub mod FreshAreBound
+pub mod Laying
+pub mod LevelsGiven
+pub mod LiteralsAdded
+pub mod Ready
+pub mod Reversed
+pub mod Walking
+pub mod WrittenStays
