@@ -2,34 +2,21 @@
 
 ghost use Rattle.std.specs.Prelude.{◌<◌, ◌≤◌};
 
+use crate::counter::Counter;
 use crate::ones::count_ones;
 use crate::program::constraints;
 use flow_form::Constraints;
 use flow_plain::solve_plain;
 use flow_workers::solve;
-use stalin_outside::Gate;
 use std::alloc::AllocGlobal;
 use std::io;
 use std::io::Print;
-use std::sync::atomic::{AtomicU32, Ordering};
 use std::thread::Threads;
 
 /// The procedures of the large program: 20,000 rows, 3,000 atoms and 2,000,001 rules.
 const LARGE: u32 = 2_000;
 
 const SMALL: u32 = 100;
-
-/// A gate that counts how often it is passed.
-#[derive(Drop)]
-struct Counter {
-    passes: AtomicU32,
-}
-
-impl Gate for Counter {
-    fn pass(&self, _worker: u32, _block: u32) {
-        self.passes.fetch_add(1, Ordering::SeqCst);
-    }
-}
 
 /// The constraints of a small program by 1, 2 and 4 workers.
 pub(crate) fn small<R: AllocGlobal + Print + Threads + Sync>(rt: &R) -> io::Result<()> {
@@ -96,11 +83,9 @@ fn solved<R: AllocGlobal + Print + Threads + Sync>(
     requires some { 1 ≤ workers }
     requires few { workers ≤ 32 }
 {
-    let gate = Counter {
-        passes: AtomicU32::new(0),
-    };
+    let gate = Counter::new();
     let closed = solve(rt, c, workers, &gate)?;
     let pairs = count_ones(closed.rows().words.as_slice());
     println!(rt; "{workers} workers: {pairs} pairs")?;
-    Ok((closed.rounds(), gate.passes.load(Ordering::SeqCst)))
+    Ok((closed.rounds(), gate.passes()))
 }

@@ -8,10 +8,10 @@ use Rattle.flow_form.specs.Least.{GivenByBlock, Within}
 use Rattle.flow_form.specs.Race.{Seen, finishing}
 use Rattle.flow_form.specs.Shape.{In, blocks_of, done_size_of}
 use Rattle.flow_form.proofs.Words.{bit_kept, bit_new}
-use Rattle.flow_plain.proofs.Seen.{block_all}
+use Rattle.flow_plain.proofs.BitsFollowing.{block_all}
 use Rattle.type_table.specs.Tables.{Held, IsOf, Opened, knowing}
-use Rattle.flow_workers.specs.Steps.{GivenAt, Steps, StepsOn}
-use Rattle.flow_workers.proofs.Steps.{seen_on, steps_trans}
+use Rattle.flow_workers.specs.PassSteps.{GivenAt, Steps, StepsOn}
+use Rattle.flow_workers.proofs.StepsOfPass.{seen_on, steps_trans}
 
 -- what the loop over the rules of a block keeps
 pub record DoesRules (c : Constraints) (table : Opened) (before pass : Held) (first index : ℕ) : Type 0 where

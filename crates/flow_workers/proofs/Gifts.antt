@@ -16,8 +16,8 @@ use Rattle.flow_plain.specs.Rules.{GivesTo}
 use Rattle.flow_plain.proofs.Rules.{mask_of_atom}
 use Rattle.type_table.specs.SharedWords.{HasPairs}
 use Rattle.type_table.specs.Tables.{Held, Opened}
-use Rattle.flow_workers.specs.Steps.{HoldsIn, IsListed, Steps}
-use Rattle.flow_workers.proofs.Steps.{seen_on, steps_trans}
+use Rattle.flow_workers.specs.PassSteps.{HoldsIn, IsListed, Steps}
+use Rattle.flow_workers.proofs.StepsOfPass.{seen_on, steps_trans}
 
 pub names_of : (c : Constraints) (rule : Rule) → IsListed c rule → RuleNames c.rows c.atoms rule
 names_of c rule listed = c.valid.named listed.index rule listed.listed

@@ -4,4 +4,4 @@ pub mod Others
 pub mod Reached
 pub mod Resting
 pub mod Rests
-pub mod Steps
+pub mod StepsOfPass

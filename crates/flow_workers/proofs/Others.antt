@@ -9,7 +9,7 @@ use Rattle.flow_form.specs.Race.{MaskWithin}
 use Rattle.flow_form.specs.Shape.{In, stride_of}
 use Rattle.type_table.specs.SharedWords.{HasPairs}
 use Rattle.type_table.specs.Tables.{Held, Opened}
-use Rattle.flow_workers.specs.Steps.{Steps}
+use Rattle.flow_workers.specs.PassSteps.{Steps}
 
 -- the bits of word `at` of a row, but that of an atom
 abbrev pub AreOthers : (word at atom others : ℕ) → Type 0

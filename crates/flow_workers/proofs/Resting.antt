@@ -1,6 +1,8 @@
 -- Which rows have been found grown, and which blocks settled, by a loop over them.
-use Rattle.std.proofs.Common.{ℕ, List, length, Option, None, Some, slice_get, ◌≡◌, ◌+◌, ◌*◌, ◌<◌, ◌≤◌, ◌⊎◌, ◌↔◌, inl, inr, arith, subst}
+use Rattle.std.proofs.Common.{ℕ, List, Vec, Global, length, Option, None, Some, Result, Ok, Err, IfOk, slice_get, ◌≡◌, ◌+◌, ◌*◌, ◌<◌, ◌≤◌, ◌⊎◌, ◌↔◌, inl, inr, ◌∙◌, arith, subst}
+use Rattle.std.specs.Int.{div_ceil}
 use Rattle.std.proofs.lemmas.Bool.{cases_lt}
+use Rattle.std.proofs.lemmas.Grind.{div_ceil_times}
 use Rattle.bit_rows.specs.Members.{IsMember, IsSubset}
 use Rattle.flow_form.specs.declared.constraints.Constraints.{Constraints}
 use Rattle.flow_form.specs.declared.rule.Give.{Give}
@@ -9,67 +11,76 @@ use Rattle.flow_form.specs.declared.rule.Rule.{Rule}
 use Rattle.flow_form.specs.declared.rule.Test.{Test}
 use Rattle.flow_form.specs.declared.rule.Test.TheVariants.{Has, Other}
 use Rattle.flow_form.specs.Least.{Given, GivenByBlock, GivesAtom, TestHolds, Within}
-use Rattle.flow_form.specs.Shape.{In, done_size_of}
-use Rattle.flow_workers.specs.Rounds.{AreGrown, BlockRests, GiveRests, HasRows, RowWithin, RuleRests, TestRests}
+use Rattle.flow_form.specs.Shape.{In}
+use Rattle.flow_workers.specs.Rounds.{AreGrown, AreRests, BlockRests, GiveRests, GrewBetween, HasRows, RowWithin, RuleRests, TestRests}
 
 -- ---- rows
 
--- the rows below one have been looked at
-pub record GrownBelow (c : Constraints) (before after grown : List ℕ) (row : ℕ) : Type 0 where
-  pub size : HasRows c grown
-  pub grew : (k : ℕ) → IsMember grown k → (k < row) × ¬ RowWithin c after before k
-  pub rests : (k : ℕ) → k < row → ¬ IsMember grown k → RowWithin c after before k
-
 pub grown_all :
-    (c : Constraints) (before after grown : List ℕ) (row : ℕ) → c.rows ≤ row
-    → GrownBelow c before after grown row → AreGrown c before after grown
-grown_all c before after grown row all h =
+    (c : Constraints) (before after grown : List ℕ) → GrewBetween c before after 0 c.rows grown
+    → AreGrown c before after grown
+grown_all c before after grown h =
+    let enough = div_ceil_times c.rows 64 (omega arith) in
     record {
-      size = h.size;
-      grew = λ k member. (h.grew k member).1;
-      rests = λ k none atom pair.
-          let there : k < c.rows = pair.row_there in
-          h.rests k (omega arith) none atom pair;
+      size = omega (arith, h.size, enough.0);
+      grew = λ k member. (h.grew k member).2;
+      rests = λ k none atom pair. h.rests k (omega arith) pair.row_there none atom pair;
     }
 
+pub all_grown :
+    {E : Type 0} → (c : Constraints) (before after : List ℕ) (found : Result (Vec ℕ Global) E)
+    → IfOk found (λ grown. GrewBetween c before after 0 c.rows grown.items)
+    → IfOk found (λ grown. AreGrown c before after grown.items)
+all_grown c before after (Ok grown) h = grown_all c before after grown.items h
+all_grown c before after (Err error) h = tt
+
 pub grown_new :
-    (c : Constraints) (before after grown items here there : List ℕ) (row : ℕ) → GrownBelow c before after grown row
-    → length items ≡ length grown → ((k : ℕ) → IsMember items k ↔ (IsMember grown k ⊎ (k ≡ row)))
+    (c : Constraints) (before after grown items here there : List ℕ) (first row : ℕ)
+    → GrewBetween c before after first row grown → first ≤ row → length items ≡ length grown
+    → ((k : ℕ) → IsMember items k ↔ (IsMember grown k ⊎ (k ≡ row)))
     → ((atom : ℕ) → IsMember here atom ↔ In c after row atom)
     → ((atom : ℕ) → IsMember there atom ↔ In c before row atom) → ¬ IsSubset here there
-    → GrownBelow c before after items (row + 1)
-grown_new c before after grown items here there row so_far size members in_after in_before apart =
+    → GrewBetween c before after first (row + 1) items
+grown_new c before after grown items here there first row so_far order size members in_after in_before apart =
     record {
-      size = omega (arith, so_far.size);
+      size = size ∙ so_far.size;
       grew = λ k member.
           elim ((members k).0 member) [
-            | inl old ↦ let below : k < row = (so_far.grew k old).0 in (omega arith, (so_far.grew k old).1)
+            | inl old ↦
+                let h = so_far.grew k old in
+                let below : k < row = h.1 in
+                (h.0, omega arith, h.2)
             | inr new ↦
                 let same : row ≡ k = omega arith in
                 let At : ℕ → Type 0 = λ n. ¬ RowWithin c after before n in (
                   omega arith,
+                  omega arith,
                   subst At same (λ h. apart (λ atom m. (in_before atom).1 (h atom ((in_after atom).0 m)))),
                 )
           ];
-      rests = λ k below none.
+      rests = λ k above below none.
           elim (cases_lt k row) [
-            | inl old ↦ so_far.rests k old (λ m. none ((members k).1 (inl m)))
+            | inl old ↦ so_far.rests k above old (λ m. none ((members k).1 (inl m)))
             | inr last ↦ absurd (none ((members k).1 (inr (omega arith))))
           ];
     }
 
 pub grown_same :
-    (c : Constraints) (before after grown here there : List ℕ) (row : ℕ) → GrownBelow c before after grown row
+    (c : Constraints) (before after grown here there : List ℕ) (first row : ℕ)
+    → GrewBetween c before after first row grown
     → ((atom : ℕ) → IsMember here atom ↔ In c after row atom)
     → ((atom : ℕ) → IsMember there atom ↔ In c before row atom) → IsSubset here there
-    → GrownBelow c before after grown (row + 1)
-grown_same c before after grown here there row so_far in_after in_before within =
+    → GrewBetween c before after first (row + 1) grown
+grown_same c before after grown here there first row so_far in_after in_before within =
     record {
       size = so_far.size;
-      grew = λ k member. let below : k < row = (so_far.grew k member).0 in (omega arith, (so_far.grew k member).1);
-      rests = λ k below none.
+      grew = λ k member.
+          let h = so_far.grew k member in
+          let below : k < row = h.1 in
+          (h.0, omega arith, h.2);
+      rests = λ k above below none.
           elim (cases_lt k row) [
-            | inl old ↦ so_far.rests k old none
+            | inl old ↦ so_far.rests k above old none
             | inr last ↦
                 let same : row ≡ k = omega arith in
                 let At : ℕ → Type 0 = λ n. RowWithin c after before n in
@@ -77,53 +88,110 @@ grown_same c before after grown here there row so_far in_after in_before within 
           ];
     }
 
+-- those of two halves
+pub grown_both :
+    (c : Constraints) (before after one two both : List ℕ) (first middle end : ℕ)
+    → GrewBetween c before after first middle one → GrewBetween c before after middle end two → first ≤ middle
+    → middle ≤ end → length both ≡ length one → ((k : ℕ) → IsMember both k ↔ (IsMember one k ⊎ IsMember two k))
+    → GrewBetween c before after first end both
+grown_both c before after one two both first middle end of_one of_two order later size members =
+    record {
+      size = size ∙ of_one.size;
+      grew = λ k member.
+          elim ((members k).0 member) [
+            | inl x ↦
+                let h = of_one.grew k x in
+                let below : k < middle = h.1 in
+                (h.0, omega arith, h.2)
+            | inr y ↦
+                let h = of_two.grew k y in
+                let above : middle ≤ k = h.0 in
+                (omega arith, h.1, h.2)
+          ];
+      rests = λ k above below none.
+          elim (cases_lt k middle) [
+            | inl early ↦ of_one.rests k above early (λ m. none ((members k).1 (inl m)))
+            | inr late ↦ of_two.rests k (omega arith) below (λ m. none ((members k).1 (inr m)))
+          ];
+    }
+
 -- ---- blocks
 
--- the blocks below one have been looked at
-pub record SettledBelow (c : Constraints) (grown settled : List ℕ) (block : ℕ) : Type 0 where
-  pub size : length settled ≡ done_size_of c
-  pub exact : (k : ℕ) → IsMember settled k ↔ ((k < block) × BlockRests c grown k)
-
 pub settled_new :
-    (c : Constraints) (grown settled items : List ℕ) (block : ℕ) → SettledBelow c grown settled block
-    → length items ≡ length settled → ((k : ℕ) → IsMember items k ↔ (IsMember settled k ⊎ (k ≡ block)))
-    → BlockRests c grown block → SettledBelow c grown items (block + 1)
-settled_new c grown settled items block so_far size members rests =
+    (c : Constraints) (grown settled items : List ℕ) (first block : ℕ) → AreRests c grown first block settled
+    → first ≤ block → length items ≡ length settled
+    → ((k : ℕ) → IsMember items k ↔ (IsMember settled k ⊎ (k ≡ block))) → BlockRests c grown block
+    → AreRests c grown first (block + 1) items
+settled_new c grown settled items first block so_far order size members rests =
     record {
       size = omega (arith, so_far.size);
       exact = λ k. (
         (λ member.
             elim ((members k).0 member) [
-              | inl old ↦ let below : k < block = ((so_far.exact k).0 old).0 in (omega arith, ((so_far.exact k).0 old).1)
+              | inl old ↦
+                  let h = (so_far.exact k).0 old in
+                  let below : k < block = h.1 in
+                  (h.0, omega arith, h.2)
               | inr new ↦
                   let same : block ≡ k = omega arith in
                   let At : ℕ → Type 0 = λ n. BlockRests c grown n in
-                  (omega arith, subst At same rests)
+                  (omega arith, omega arith, subst At same rests)
             ]),
         (λ h.
             elim (cases_lt k block) [
-              | inl old ↦ (members k).1 (inl ((so_far.exact k).1 (old, h.1)))
-              | inr last ↦ let below : k < block + 1 = h.0 in (members k).1 (inr (omega arith))
+              | inl old ↦ (members k).1 (inl ((so_far.exact k).1 (h.0, old, h.2)))
+              | inr last ↦ let below : k < block + 1 = h.1 in (members k).1 (inr (omega arith))
             ]),
       );
     }
 
 pub settled_same :
-    (c : Constraints) (grown settled : List ℕ) (block : ℕ) → SettledBelow c grown settled block
-    → ¬ BlockRests c grown block → SettledBelow c grown settled (block + 1)
-settled_same c grown settled block so_far reads =
+    (c : Constraints) (grown settled : List ℕ) (first block : ℕ) → AreRests c grown first block settled
+    → ¬ BlockRests c grown block → AreRests c grown first (block + 1) settled
+settled_same c grown settled first block so_far reads =
     record {
       size = so_far.size;
       exact = λ k. (
-        (λ member. let below : k < block = ((so_far.exact k).0 member).0 in (omega arith, ((so_far.exact k).0 member).1)),
+        (λ member.
+            let h = (so_far.exact k).0 member in
+            let below : k < block = h.1 in
+            (h.0, omega arith, h.2)),
         (λ h.
             elim (cases_lt k block) [
-              | inl old ↦ (so_far.exact k).1 (old, h.1)
+              | inl old ↦ (so_far.exact k).1 (h.0, old, h.2)
               | inr last ↦
-                  let below : k < block + 1 = h.0 in
+                  let below : k < block + 1 = h.1 in
                   let same : k ≡ block = omega arith in
                   let At : ℕ → Type 0 = λ n. BlockRests c grown n in
-                  absurd (reads (subst At same h.1))
+                  absurd (reads (subst At same h.2))
+            ]),
+      );
+    }
+
+-- those of two halves
+pub settled_both :
+    (c : Constraints) (grown one two both : List ℕ) (first middle end : ℕ) → AreRests c grown first middle one
+    → AreRests c grown middle end two → first ≤ middle → middle ≤ end → length both ≡ length one
+    → ((k : ℕ) → IsMember both k ↔ (IsMember one k ⊎ IsMember two k)) → AreRests c grown first end both
+settled_both c grown one two both first middle end of_one of_two order later size members =
+    record {
+      size = omega (arith, of_one.size);
+      exact = λ k. (
+        (λ member.
+            elim ((members k).0 member) [
+              | inl x ↦
+                  let h = (of_one.exact k).0 x in
+                  let below : k < middle = h.1 in
+                  (h.0, omega arith, h.2)
+              | inr y ↦
+                  let h = (of_two.exact k).0 y in
+                  let above : middle ≤ k = h.0 in
+                  (omega arith, h.1, h.2)
+            ]),
+        (λ h.
+            elim (cases_lt k middle) [
+              | inl early ↦ (members k).1 (inl ((of_one.exact k).1 (h.0, early, h.2)))
+              | inr late ↦ (members k).1 (inr ((of_two.exact k).1 (omega arith, h.1, h.2)))
             ]),
       );
     }

@@ -9,7 +9,7 @@ use Rattle.flow_form.specs.Shape.{In, blocks_of}
 use Rattle.flow_plain.proofs.Rules.{listed_below}
 use Rattle.type_table.specs.Tables.{Answer, Held, IsOf, IsStart, Leaves, Opened}
 use Rattle.flow_workers.specs.Rounds.{AreSettled, IsRound}
-use Rattle.flow_workers.specs.Steps.{Steps}
+use Rattle.flow_workers.specs.PassSteps.{Steps}
 
 -- a block of the constraints is one of those that the pass knows
 pub block_there :

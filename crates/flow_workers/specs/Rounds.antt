@@ -1,5 +1,6 @@
 -- What a round leaves, which blocks the next one may skip, and what the workers answer in the end.
-use Rattle.std.specs.Prelude.{ℕ, List, Option, Some, None, ◌≡◌, ◌+◌, ◌*◌, ◌/◌, ◌≤◌, length, slice_get}
+use Rattle.std.specs.Prelude.{ℕ, List, Option, Some, None, ◌≡◌, ◌+◌, ◌*◌, ◌/◌, ◌≤◌, ◌<◌, ◌↔◌, length, slice_get}
+use Rattle.std.specs.Int.{div_ceil}
 use Rattle.bit_rows.specs.Members.{IsMember}
 use Rattle.flow_form.specs.declared.constraints.Constraints.{Constraints}
 use Rattle.flow_form.specs.declared.rule.Give.{Give}
@@ -8,7 +9,7 @@ use Rattle.flow_form.specs.declared.rule.Rule.{Rule}
 use Rattle.flow_form.specs.declared.rule.Test.{Test}
 use Rattle.flow_form.specs.declared.rule.Test.TheVariants.{Has, Other}
 use Rattle.flow_form.specs.Least.{Closed, Given, GivenByBlock, IsChain, Nothing, Stage, Within}
-use Rattle.flow_form.specs.Shape.{HoldsLeast, In, pairs_in, size_of}
+use Rattle.flow_form.specs.Shape.{HoldsLeast, In, done_size_of, pairs_in, size_of}
 use Rattle.type_table.specs.Tables.{Answer, IsAnswer}
 
 -- ---- a round
@@ -40,6 +41,12 @@ pub record AreGrown (c : Constraints) (before after grown : List ℕ) : Type 0 w
   pub grew : (row : ℕ) → IsMember grown row → ¬ RowWithin c after before row
   pub rests : (row : ℕ) → ¬ IsMember grown row → RowWithin c after before row
 
+-- a bit for each row: of those from one to before another these are set that have a pair which they had not before
+pub record GrewBetween (c : Constraints) (before after : List ℕ) (first end : ℕ) (grown : List ℕ) : Type 0 where
+  pub size : length grown ≡ div_ceil c.rows 64
+  pub grew : (row : ℕ) → IsMember grown row → (first ≤ row) × (row < end) × ¬ RowWithin c after before row
+  pub rests : (row : ℕ) → first ≤ row → row < end → ¬ IsMember grown row → RowWithin c after before row
+
 -- a rule reads the rows of its tests and the row that it gives
 abbrev pub TestRests : List ℕ → Option Test → Type 0
 TestRests grown None = Unit {0}
@@ -59,6 +66,11 @@ pub record RuleRests (grown : List ℕ) (rule : Rule) : Type 0 where
 abbrev pub BlockRests : Constraints → (grown : List ℕ) → (block : ℕ) → Type 0
 BlockRests c grown block =
     (index : ℕ) (rule : Rule) → index / 1024 ≡ block → slice_get c.rules index ≡ Some rule → RuleRests grown rule
+
+-- a bit for each block: those are set that read no row that grew, from one block to before another
+pub record AreRests (c : Constraints) (grown : List ℕ) (first end : ℕ) (settled : List ℕ) : Type 0 where
+  pub size : length settled ≡ done_size_of c
+  pub exact : (block : ℕ) → IsMember settled block ↔ ((first ≤ block) × (block < end) × BlockRests c grown block)
 
 -- ---- from round to round
 

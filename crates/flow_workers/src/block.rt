@@ -3,7 +3,7 @@ ghost use Rattle.std.specs.Prelude.{◌≡◌, ◌<◌};
 ghost use Rattle.bit_rows.specs.Members.{IsMember};
 ghost use Rattle.flow_form.specs.Shape.{blocks_of};
 ghost use Rattle.type_table.specs.Tables.{IsOf};
-ghost use Rattle.flow_workers.specs.Steps.{Steps};
+ghost use Rattle.flow_workers.specs.PassSteps.{Steps};
 
 use crate::notes::Notes;
 use crate::rule::apply;

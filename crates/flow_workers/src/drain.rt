@@ -1,7 +1,7 @@
-//! What a worker does when no block is left: it follows what it has grown.
+//! What a worker does when no block is left: it follows what has grown, whoever grew it.
 ghost use Rattle.std.specs.Prelude.{◌≡◌};
 ghost use Rattle.type_table.specs.Tables.{IsOf};
-ghost use Rattle.flow_workers.specs.Steps.{Steps};
+ghost use Rattle.flow_workers.specs.PassSteps.{Steps};
 
 use crate::found::Found;
 use crate::notes::Notes;
@@ -9,11 +9,15 @@ use crate::readers::{Readers, Run, Thing};
 use crate::rule::{apply, apply_words};
 use flow_form::Constraints;
 use std::alloc::Global;
+use std::thread::yield_now;
 use type_table::{Pass, TypeTable};
 
-/// Applies the rules that read what the pass has grown, and so on, until all that it has grown is followed.
+/// So often a worker without work looks whether others have left it some.
+const LOOKS: u32 = 100_000;
+
+/// Applies the rules that read what has grown, and so on, until all is followed, or nobody is left who follows it.
 ///
-/// Each row that is taken has a bit that nobody had set before, so there are no more than the rows have bits.
+/// A worker that finds nothing looks again, a bounded number of times, as long as others may put something.
 pub(crate) fn drain(
     alloc: Global,
     c: &Constraints,
@@ -28,14 +32,43 @@ pub(crate) fn drain(
     let Some(readers) = notes.readers else {
         return;
     };
+    let waiting = &readers.waiting;
     let Ok(mut grown) = vec![in alloc; 0; c.stride() as usize] else {
+        waiting.end();
         return;
     };
+    for _ in 0..LOOKS {
+        drain_waiting(c, table, pass, notes, readers, grown.as_mut_slice());
+        waiting.end();
+        if waiting.all_rest() {
+            return;
+        }
+        yield_now();
+        waiting.begin();
+    }
+    waiting.end();
+}
+
+/// Takes rows that wait and follows them, until none waits.
+///
+/// Each row that is taken has a bit that nobody had set before, so there are no more than the rows have bits.
+fn drain_waiting(
+    c: &Constraints,
+    table: &TypeTable,
+    pass: &mut Pass,
+    notes: &mut Notes,
+    readers: &Readers,
+    grown: &mut [u64],
+)
+    requires opened { table.now.constraints ≡ c.now }
+    requires of { IsOf pass.old table.now }
+    ensures { Steps c.now table.now pass.old pass.new }
+{
     for _ in 0..c.size() * 64 {
-        let Some(row) = notes.take(grown.as_mut_slice()) else {
+        let Some(row) = notes.take(grown) else {
             return;
         };
-        follow(c, table, pass, notes, readers, row, grown.as_slice());
+        follow(c, table, pass, notes, readers, row, grown);
     }
 }
 

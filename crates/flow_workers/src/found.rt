@@ -59,6 +59,46 @@ impl Bits {
             None => false,
         }
     }
+
+    /// Takes a bit away, and says whether it was set.
+    fn take(&self, bit: usize) -> bool {
+        match self.words.as_slice().get(bit / 64) {
+            Some(word) => {
+                let before = word.fetch_and(!(1 << (bit % 64)), Ordering::SeqCst);
+                (before >> (bit % 64)) & 1 == 1
+            }
+            None => false,
+        }
+    }
+
+    /// Takes away the next bit that is set, from one on.
+    pub(crate) fn take_from(&self, first: usize) -> Option<usize> {
+        let mut kept = u64::MAX << (first % 64);
+        for at in first / 64..self.words.len() {
+            if let Some(bit) = self.take_of(at, kept) {
+                return Some(bit);
+            }
+            kept = u64::MAX;
+        }
+        None
+    }
+
+    /// Takes away the first of those bits of a word that a mask keeps.
+    fn take_of(&self, at: usize, kept: u64) -> Option<usize> {
+        for _ in 0..64 {
+            let word = self.word(at) & kept;
+            if word == 0 {
+                return None;
+            }
+            let bit = at
+                .wrapping_mul(64)
+                .wrapping_add(word.trailing_zeros() as usize);
+            if self.take(bit) {
+                return Some(bit);
+            }
+        }
+        None
+    }
 }
 
 /// For each row the rules that give it and whose tests hold: the last that was found, and for each rule the one

@@ -7,6 +7,7 @@ ghost use Rattle.std.specs.Prelude.{◌<◌};
 ghost use Rattle.std.specs.Thread.{IsSync};
 
 use crate::found::{Bits, Found};
+use crate::waiting::Waiting;
 use flow_form::{Constraints, MOST_ATOMS, Rule, Test};
 use std::alloc::{AllocError, AllocGlobal, Global};
 use std::thread::{Threads, join};
@@ -225,13 +226,45 @@ fn parts_of<R: Threads + Sync>(
     Ok(all)
 }
 
-/// The runs of all rules by what they test, and what the workers have found of each rule so far.
+/// Empty lists of what is found of the rules, and of what waits.
+fn empty_lists(alloc: Global, c: &Constraints) -> Result<(Found, Waiting), AllocError> {
+    Ok((Found::new(alloc, c)?, Waiting::new(alloc, c)?))
+}
+
+/// The parts of all rules by so many threads, and the empty lists, which one more makes where there are several.
+fn parts_and_lists<R: Threads + Sync>(
+    rt: &R,
+    alloc: Global,
+    c: &Constraints,
+    tested: &Bits,
+    threads: u32,
+) -> (
+    Result<Vec<Part>, AllocError>,
+    Result<(Found, Waiting), AllocError>,
+) {
+    let rules = c.rules.len();
+    if threads <= 1 {
+        let parts = parts_of(rt, alloc, c, tested, 0, rules, 1);
+        return (parts, empty_lists(alloc, c));
+    }
+    join(
+        rt,
+        || -> Result<Vec<Part>, AllocError>
+            requires { IsSync R.row }
+        { parts_of(rt, alloc, c, tested, 0, rules, threads) },
+        || -> Result<(Found, Waiting), AllocError> { empty_lists(alloc, c) },
+    )
+}
+
+/// The runs of all rules by what they test, what the workers have found of each rule so far, and the rows that wait
+/// to be followed.
 #[derive(Drop)]
 pub(crate) struct Readers {
     parts: Vec<Part>,
     /// A bit for each atom of each row, set where a rule tests whether the row has the atom.
     tested: Bits,
     pub found: Found,
+    pub waiting: Waiting,
 }
 
 impl Readers {
@@ -243,10 +276,13 @@ impl Readers {
     ) -> Result<Readers, AllocError> {
         let alloc = rt.alloc();
         let tested = Bits::new(alloc, c.size() as usize * 64)?;
+        let (parts, empty) = parts_and_lists(rt, alloc, c, &tested, threads);
+        let (found, waiting) = empty?;
         Ok(Readers {
-            parts: parts_of(rt, alloc, c, &tested, 0, c.rules.len(), threads)?,
+            parts: parts?,
             tested,
-            found: Found::new(alloc, c)?,
+            found,
+            waiting,
         })
     }
 
@@ -256,6 +292,7 @@ impl Readers {
             parts: Vec::new(alloc),
             tested: Bits::none(alloc),
             found: Found::none(alloc),
+            waiting: Waiting::none(alloc),
         }
     }
 

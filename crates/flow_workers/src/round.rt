@@ -117,8 +117,8 @@ fn run<R: Threads + Sync, G: Gate>(
     one
 }
 
-/// Draws blocks and does those that are not settled, until none is left, and then follows what it has
-/// grown.
+/// Draws blocks and does those that are not settled, until none is left, and then follows what has
+/// grown, whoever grew it.
 fn draw<G: Gate>(
     alloc: Global,
     c: &Constraints,
@@ -134,7 +134,7 @@ fn draw<G: Gate>(
     requires size { length settled.now ≡ done_size_of c.now }
     ensures { IsOf pass.new table.now }
 {
-    let mut notes = Notes::new(alloc, c, readers);
+    let mut notes = Notes::new(readers);
     draw_all(c, table, pass, settled, &mut notes, worker, gate);
     drain(alloc, c, table, pass, &mut notes);
 }

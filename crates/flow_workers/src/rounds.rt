@@ -83,7 +83,14 @@ fn first_round<R: AllocGlobal + Threads + Sync, G: Gate>(
     let settled = vec![in alloc; 0; c.blocks().div_ceil(64) as usize]?;
     let closed = round(rt, c, None, settled.as_slice(), readers, workers, gate)?;
     let rows = closed.rows();
-    let grown = grown_rows(alloc, c, base.words.as_slice(), rows.words.as_slice())?;
+    let grown = grown_rows(
+        rt,
+        alloc,
+        c,
+        base.words.as_slice(),
+        rows.words.as_slice(),
+        workers,
+    )?;
     Ok(Reached { closed, grown })
 }
 
@@ -104,7 +111,7 @@ fn next_round<R: AllocGlobal + Threads + Sync, G: Gate>(
     ensures later { IfOk result (λ reached. reached.closed.rounds ≡ last.now.closed.rounds + 1) }
 {
     let alloc = rt.alloc();
-    let settled = settled_blocks(alloc, c, last.grown.as_slice())?;
+    let settled = settled_blocks(rt, alloc, c, last.grown.as_slice(), workers)?;
     let closed = round(
         rt,
         c,
@@ -116,6 +123,13 @@ fn next_round<R: AllocGlobal + Threads + Sync, G: Gate>(
     )?;
     let base = last.closed.rows();
     let rows = closed.rows();
-    let grown = grown_rows(alloc, c, base.words.as_slice(), rows.words.as_slice())?;
+    let grown = grown_rows(
+        rt,
+        alloc,
+        c,
+        base.words.as_slice(),
+        rows.words.as_slice(),
+        workers,
+    )?;
     Ok(Reached { closed, grown })
 }

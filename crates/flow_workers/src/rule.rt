@@ -9,7 +9,7 @@ ghost use Rattle.flow_form.specs.Valid.{TestNames};
 ghost use Rattle.flow_form.specs.declared.rule.Give.TheVariants.{Row};
 ghost use Rattle.flow_plain.specs.Rules.{GivesTo};
 ghost use Rattle.type_table.specs.Tables.{IsOf};
-ghost use Rattle.flow_workers.specs.Steps.{GivenAt, HoldsIn, IsListed, Steps};
+ghost use Rattle.flow_workers.specs.PassSteps.{GivenAt, HoldsIn, IsListed, Steps};
 
 use crate::notes::Notes;
 use crate::step::{load, set};

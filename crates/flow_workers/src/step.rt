@@ -5,7 +5,7 @@ ghost use Rattle.flow_form.specs.Race.{MaskWithin, Seen};
 ghost use Rattle.flow_form.specs.Shape.{In, size_of};
 ghost use Rattle.type_table.specs.SharedWords.{HasPairs};
 ghost use Rattle.type_table.specs.Tables.{IsOf};
-ghost use Rattle.flow_workers.specs.Steps.{Steps};
+ghost use Rattle.flow_workers.specs.PassSteps.{Steps};
 
 use crate::notes::Notes;
 use bit_rows::is_part;

@@ -1,7 +1,7 @@
 use Rattle.std.proofs.Common.{◌+◌, ◌*◌, ◌≤◌, ◌⊎◌, inl, inr, arith, length}
 use Rattle.std.proofs.lemmas.Bool.{cases_lt}
 use Rattle.flow_workers.proofs.Blocks.{block_seen, done_finish, rules_more, steps_finish}
-use Rattle.flow_workers.proofs.Steps.{steps_trans}
+use Rattle.flow_workers.proofs.StepsOfPass.{steps_trans}
 use Rattle.flow_workers.proofs.block.do_noting.Goals as goal
 
 pub loop-index-preserved : goal.loop-index-preserved

@@ -1,4 +1,4 @@
-use Rattle.flow_workers.specs.Steps.{Steps}
+use Rattle.flow_workers.specs.PassSteps.{Steps}
 use Rattle.flow_workers.proofs.drain.begin.Given as goal
 
 abbrev pub invariant-loop-run : goal.invariant-loop-run

@@ -20,7 +20,7 @@ round-requires-clause-settled g c = λ κs within block member.
     let exact = c.in_ok-settled.ensures.exact block in
     settled_next c.args.c.now c.requires.reached.base c.args.last.now.closed.rows.words c.args.last.now.grown.items block
     c.requires.reached.grows c.requires.reached.round.given
-    (subst Rests c.as_slice.ensures.value (exact.0 (subst Member c.as_slice-2.ensures.value member)).1)
+    (subst Rests c.as_slice.ensures.value (exact.0 (subst Member c.as_slice-2.ensures.value member)).2)
 
 pub returns-clause-reached : goal.returns-clause-reached
 returns-clause-reached g c =

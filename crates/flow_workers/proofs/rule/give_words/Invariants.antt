@@ -1,4 +1,4 @@
-use Rattle.flow_workers.specs.Steps.{Steps}
+use Rattle.flow_workers.specs.PassSteps.{Steps}
 use Rattle.flow_workers.proofs.rule.give_words.Given as goal
 
 abbrev pub invariant-loop-at : goal.invariant-loop-at

@@ -1,4 +1,4 @@
-use Rattle.flow_workers.proofs.Steps.{loaded_load, steps_load}
+use Rattle.flow_workers.proofs.StepsOfPass.{loaded_load, steps_load}
 use Rattle.flow_workers.proofs.step.load.Goals as goal
 
 pub returns-clause-steps : goal.returns-clause-steps

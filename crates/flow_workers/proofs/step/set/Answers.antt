@@ -1,4 +1,4 @@
-use Rattle.flow_workers.proofs.Steps.{follows_opened, seen_grow, steps_grow, steps_trans}
+use Rattle.flow_workers.proofs.StepsOfPass.{follows_opened, seen_grow, steps_grow, steps_trans}
 use Rattle.flow_workers.proofs.step.set.Goals as goal
 
 pub grow-before-requires-clause-follows : goal.grow-before-requires-clause-follows

@@ -8,7 +8,7 @@ use Rattle.flow_form.specs.Shape.{In, size_of}
 use Rattle.flow_form.proofs.Least.{given_more}
 use Rattle.flow_form.proofs.Words.{in_kept, in_new}
 use Rattle.type_table.specs.Tables.{Held, IsOf, Opened, knowing}
-use Rattle.flow_workers.specs.Steps.{Steps, StepsOn}
+use Rattle.flow_workers.specs.PassSteps.{Steps, StepsOn}
 
 -- ---- one after another
 pub steps_none : (c : Constraints) (table : Opened) (pass : Held) → IsOf pass table → Steps c table pass pass
