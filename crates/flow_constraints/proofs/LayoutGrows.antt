@@ -320,7 +320,7 @@ prim_many : (o : Op) (r : ℕ) → length (prim_kinds o r) ≡ (if makes o then 
 prim_many op.Cons r = refl
 prim_many o r = refl
 
-made_many : (act : Act Pos) (x r : ℕ) → length (made_kinds act x r) ≡ sites_of act
+pub made_many : (act : Act Pos) (x r : ℕ) → length (made_kinds act x r) ≡ sites_of act
 made_many (Prim o ys) x r = prim_many o r
 made_many act x r = refl
 

@@ -1,4 +1,5 @@
 pub mod Labelled
+pub mod CensusTold
 pub mod Counted
 pub mod Refused
 pub mod Parts

@@ -21,6 +21,7 @@ use Rattle.flow_constraints.specs.declared.flow.Kind.{Kind}
 use Rattle.flow_constraints.specs.declared.flow.Kind.TheVariants.{Fixed, Pair, Vector, Symbol}
 use Rattle.flow_constraints.specs.declared.layout.Layout.{Layout}
 use Rattle.flow_constraints.specs.declared.layout.Quoted.{Quoted}
+use Rattle.flow_constraints.specs.Census.{cut}
 use Rattle.flow_constraints.specs.Layout.{atoms_of, begins, closure_kinds, flow_of, is_of, joined, kinds_of, laid_lambdas, laid_main, started}
 use Rattle.flow_constraints.specs.Limits.{atom_count, or_else, passed, past, row_count, table_limit}
 use Rattle.flow_constraints.specs.Listed.{rules_of}
@@ -51,7 +52,7 @@ closures_below : (most q : ℕ) (es : List Entry) → AllByRecursion (KindBelow 
 closures_below most q [] = tt
 closures_below most q (e ∷ es) = (tt, closures_below most (q + 1) es)
 
-closures_many : (q : ℕ) (es : List Entry) → length (closure_kinds q es) ≡ length es
+pub closures_many : (q : ℕ) (es : List Entry) → length (closure_kinds q es) ≡ length es
 closures_many q [] = refl
 closures_many q (e ∷ es) = ap suc (closures_many (q + 1) es)
 
@@ -357,7 +358,7 @@ none_past : (which : LimitKind) (count most : ℕ) → past which count most ≡
 none_past which count most h = here (nat_le count most) refl h
   where
     here : (b : Bool) → nat_le count most ≡ b
-        → ◌≡◌ {A = Option Limit} (if b then None else Some (record { which = which; count = count })) None → count ≤ most
+        → ◌≡◌ {A = Option Limit} (if b then None else Some (record { which = which; count = cut count })) None → count ≤ most
     here true e h = leb-true count most e
     here false e h = cc
 

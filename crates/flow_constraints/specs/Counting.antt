@@ -7,6 +7,7 @@ use Rattle.named_form.specs.Code.{Code, Ends, Then, Act, Const, Prim, Call, Appl
 use Rattle.flow_constraints.specs.declared.flow.Entry.{Entry}
 use Rattle.flow_constraints.specs.declared.flow.Flow.{Flow}
 use Rattle.flow_constraints.specs.declared.tally.Tally.{Tally}
+use Rattle.flow_constraints.specs.Census.{cut}
 use Rattle.flow_constraints.specs.Table.{ending, parts_of, parts_under, results, takes}
 
 -- a list of so many operands past the parameters
@@ -99,6 +100,6 @@ abbrev pub procs_count : Flow → List Lit → List Written → ℕ
 procs_count f lits [] = 0
 procs_count f lits (p ∷ ps) = (1 + code_count f lits p.body) + lambdas_count f lits ps
 
--- what is remembered of a count of operands is how many rules enter the procedures that take it
+-- what is remembered of a count of operands is how many rules enter the procedures that take it, as 64 bits hold it
 abbrev pub Remembers : Flow → Tally → Type 0
-Remembers f t = (n rules : ℕ) → slice_get t.entering.items n ≡ Some (Some rules) → rules ≡ entering_count n f.entries
+Remembers f t = (n rules : ℕ) → slice_get t.entering.items n ≡ Some (Some rules) → rules ≡ cut (entering_count n f.entries)

@@ -1,3 +1,4 @@
+pub mod Census
 pub mod Rows
 pub mod Layout
 pub mod Quoted

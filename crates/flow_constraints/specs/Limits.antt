@@ -7,12 +7,13 @@ use Rattle.scheme_base.specs.declared.limit.LimitKind.{LimitKind}
 use Rattle.scheme_base.specs.declared.limit.LimitKind.TheVariants.{Rows, Atoms, Table, Rules}
 use Rattle.flow_form.specs.Valid.{words_of_row}
 use Rattle.named_form.specs.Valid.{Form}
+use Rattle.flow_constraints.specs.Census.{cut}
 use Rattle.flow_constraints.specs.Layout.{flow_of}
 use Rattle.flow_constraints.specs.Listed.{rules_of}
 
--- a count that is past its most
+-- a count that is past its most, told as 64 bits hold it
 abbrev pub past : LimitKind → (count most : ℕ) → Option Limit
-past which count most = if nat_le count most then None else Some (record { which = which; count = count })
+past which count most = if nat_le count most then None else Some (record { which = which; count = cut count })
 
 -- the first of two limits that is passed
 abbrev pub or_else : Option Limit → Option Limit → Option Limit
@@ -34,7 +35,8 @@ atom_count f = length (flow_of f).kinds
 abbrev pub passed : Form → Option Limit
 passed f = or_else (table_limit (row_count f) (atom_count f)) (past Rules (length (rules_of f)) 8388608)
 
--- a program is refused for the first limit that it passes, or for want of memory
+-- A program is refused for the first limit that it passes. Want of memory alone may be told of another one, and of
+-- none that has too many rows, atoms or words: these are counted without memory.
 abbrev pub Refuses : Form → LimitErr → Type 0
 Refuses f (err.Limit limit) = passed f ≡ Some limit
-Refuses f err.NoMemory = Unit {0}
+Refuses f err.NoMemory = table_limit (row_count f) (atom_count f) ≡ None

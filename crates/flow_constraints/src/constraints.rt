@@ -12,6 +12,7 @@ ghost use Rattle.flow_constraints.specs.Listed.{rules_of};
 ghost use Rattle.flow_constraints.specs.Walk.{put_procs};
 
 use crate::Flow;
+use crate::census::Census;
 use crate::flow::narrow;
 use crate::layout::flow_of;
 use crate::steps::put_all;
@@ -30,25 +31,26 @@ const MOST_WORDS: u64 = 4_194_304;
 const MOST_RULES: u64 = 8_388_608;
 
 /// The constraints of a program: its rows and atoms, and the list of its rules. A limit is told where a count is
-/// past its most: of rows, of atoms, of words of all rows, of rules, the first of these that is. A well-formed
-/// program that passes no limit has valid rules, so it is refused for want of memory alone, or for a count that
-/// leaves 32 bits before it can be told.
-#[tactic(auto, using(crate::proofs::Refused::table_passed, crate::proofs::ProgramFits::rules_valid))]
+/// past its most: of rows, of atoms, of words of all rows, of rules, the first of these that is. A count of 2^64 or
+/// more is told as 2^64 - 1. Rows, atoms and words are counted before anything is laid out, and without memory. A
+/// well-formed program that passes no limit has valid rules, so it is refused for want of memory alone.
+#[tactic(auto, using(crate::proofs::Refused::table_passed, crate::proofs::Refused::table_small, crate::proofs::ProgramFits::rules_valid))]
 pub fn generate(alloc: Global, named: &Named) -> Result<Constraints, LimitErr>
     ensures made { IfOk result (λ c. IsMadeOf c (row_count (form named.now)) (atom_count (form named.now)) (rules_of (form named.now))) }
     ensures within { IfOk result (λ c. passed (form named.now) ≡ None) }
     ensures refused { IfErr result (Refuses (form named.now)) }
     ensures valid { WellFormed (form named.now) → passed (form named.now) ≡ None → IsValid (row_count (form named.now)) (atom_count (form named.now)) (rules_of (form named.now)) }
 {
+    let census = Census::of(named);
+    if let Some(limit) = table_limit(census.rows, census.atoms) {
+        return Err(LimitErr::Limit(limit));
+    }
     let Ok(flow) = flow_of(alloc, named) else {
         return Err(LimitErr::NoMemory);
     };
     let Ok(atoms) = narrow(flow.kinds.len()) else {
         return Err(LimitErr::NoMemory);
     };
-    if let Some(limit) = table_limit(flow.rows, atoms) {
-        return Err(LimitErr::Limit(limit));
-    }
     let lits = named.lits.as_slice();
     let procs = named.procs.as_slice();
     let Ok(count) = count_rules(alloc, &flow, lits, procs) else {
@@ -79,18 +81,20 @@ fn past(which: LimitKind, count: u64, most: u64) -> Option<Limit>
 }
 
 /// The first limit that rows and atoms pass.
-fn table_limit(rows: u32, atoms: u32) -> Option<Limit>
+fn table_limit(rows: u64, atoms: u64) -> Option<Limit>
     ensures { result ≡ table_passed rows atoms }
 {
-    let rows = u64::from(rows);
-    let atoms = u64::from(atoms);
     if let Some(limit) = past(LimitKind::Rows, rows, MOST_ROWS) {
         return Some(limit);
     }
     if let Some(limit) = past(LimitKind::Atoms, atoms, MOST_ATOMS) {
         return Some(limit);
     }
-    past(LimitKind::Table, rows * atoms.div_ceil(64), MOST_WORDS)
+    past(
+        LimitKind::Table,
+        rows.saturating_mul(atoms.div_ceil(64)),
+        MOST_WORDS,
+    )
 }
 
 /// The constraints of a program with so many atoms and rules, if the rules are valid.

@@ -12,10 +12,10 @@ use std::alloc::AllocError;
 
 /// How many steps, sites and blocks stand before a step. A step's own numbers are these.
 #[derive(Clone, Copy, Debug)]
-pub(crate) struct Counts {
-    pub(crate) steps: u32,
-    pub(crate) sites: u32,
-    pub(crate) blocks: u32,
+pub struct Counts {
+    pub steps: u32,
+    pub sites: u32,
+    pub blocks: u32,
 }
 
 /// How many objects an operation makes.
@@ -29,7 +29,7 @@ fn makes(op: Op) -> u32
 }
 
 /// How many sites a step is.
-fn sites_of(act: &Act) -> u32
+pub(crate) fn sites_of(act: &Act) -> u32
     ensures { result ≡ sites_in (act_of act.now) }
 {
     match act {
@@ -51,7 +51,7 @@ fn arms_of(act: &Act) -> u32
 
 impl Counts {
     /// Past a step itself, before its arms.
-    pub(crate) fn past(self, act: &Act) -> Result<Counts, AllocError>
+    pub fn past(self, act: &Act) -> Result<Counts, AllocError>
         ensures { IfOk result (λ c. counts c ≡ past (counts self) (act_of act.now)) }
     {
         Ok(Counts {
@@ -62,7 +62,7 @@ impl Counts {
     }
 
     /// Past the number of the block that begins.
-    pub(crate) fn inside(self) -> Result<Counts, AllocError>
+    pub fn inside(self) -> Result<Counts, AllocError>
         ensures { IfOk result (λ c. counts c ≡ inside (counts self)) }
     {
         Ok(Counts {

@@ -119,7 +119,7 @@ impl Flow {
     }
 
     /// The row of a variable.
-    pub(crate) fn var(&self, var: u32) -> u32
+    pub fn var(&self, var: u32) -> u32
         ensures { result ≡ number_at self.now.vars var }
     {
         at(&self.vars, var)
@@ -133,7 +133,7 @@ impl Flow {
     }
 
     /// The row that tells whether a block is reached.
-    pub(crate) fn reach(&self, block: u32) -> u32
+    pub fn reach(&self, block: u32) -> u32
         ensures { result ≡ number_at self.now.blocks block }
     {
         at(&self.blocks, block)

@@ -3,6 +3,7 @@
 ghost use Rattle.std.specs.Prelude.{◌≡◌, ◌+◌, ◌++◌, ◌∷◌, [], length, map, IfOk, OnOk};
 ghost use Rattle.named_form.specs.Code.{single as first_var};
 ghost use Rattle.named_form.specs.Written.{act_of, code, form, procedure};
+ghost use Rattle.flow_constraints.specs.Census.{cut};
 ghost use Rattle.flow_constraints.specs.Quoted.{added, coming_past, literal_atom, object_begun, pairs_added, parts, quoted, quoted_all, shape_of, texts_added, unquoted, vectors_added, with_one};
 ghost use Rattle.flow_constraints.specs.Layout.{begins, bound, bound_all, closure_kinds, entry_of, kinds_of, flow_of, has_arms, joined, laid_all, laid_arms, laid_body, laid_code, laid_lambda, laid_main, laid_own, laid_rest, laid_step, made_kinds, option_kinds, own_rows, prim_kinds, prim_rows, started};
 
@@ -51,7 +52,7 @@ fn prim_rows(op: Op) -> u32
 }
 
 /// How many rows a step has beside those of its variables.
-fn own_rows(act: &Act) -> u32
+pub(crate) fn own_rows(act: &Act) -> u32
     ensures { result ≡ own_rows (act_of act.now) }
 {
     match act {
@@ -300,31 +301,29 @@ pub(crate) struct Quoted {
     pub(crate) rows: u32,
     pub(crate) kinds: Kinds,
     pub(crate) lits: Ids,
-    pub(crate) coming: usize,
+    pub(crate) coming: u64,
     pub(crate) pairs: u32,
     pub(crate) vectors: u32,
     pub(crate) texts: u32,
 }
 
 /// How many parts a literal has.
-fn parts(lit: &Lit) -> usize
+fn parts(lit: &Lit) -> u64
     ensures { result ≡ parts lit.now }
 {
     match lit {
         Lit::Pair(..) => 2,
-        Lit::Vector(items) => items.len(),
+        Lit::Vector(items) => items.len() as u64,
         _ => 0,
     }
 }
 
-/// How many parts are to come once a literal is passed by that was one of so many.
-fn coming_past(coming: usize, lit: &Lit) -> Result<usize, AllocError>
-    ensures { IfOk result (λ left. left ≡ coming_past coming lit.now) }
+/// How many parts are to come once a literal is passed by that was one of so many: 2^64 - 1 where there are more,
+/// and no list of literals has so many.
+pub(crate) fn coming_past(coming: u64, lit: &Lit) -> u64
+    ensures { result ≡ cut (coming_past coming lit.now) }
 {
-    coming
-        .saturating_sub(1)
-        .checked_add(parts(lit))
-        .ok_or(AllocError)
+    coming.saturating_sub(1).saturating_add(parts(lit))
 }
 
 impl Shape {
@@ -341,23 +340,23 @@ impl Shape {
 }
 
 /// The shape of the quoted object that is the first of these literals.
-fn shape_at(lits: &[Lit]) -> Result<Shape, AllocError>
-    ensures { IfOk result (λ made. made ≡ shape_of lits.now) }
+pub(crate) fn shape_at(lits: &[Lit]) -> Shape
+    ensures { result ≡ shape_of lits.now }
 {
     let mut shape = Shape {
         pairs: false,
         vectors: false,
         texts: false,
     };
-    let mut coming = 1;
+    let mut coming: u64 = 1;
     for lit in lits {
         if coming == 0 {
-            return Ok(shape);
+            return shape;
         }
         shape = shape.with(lit);
-        coming = coming_past(coming, lit)?;
+        coming = coming_past(coming, lit);
     }
-    Ok(shape)
+    shape
 }
 
 impl Quoted {
@@ -454,11 +453,15 @@ impl Quoted {
         ensures { OnOk result (self.new ≡ quoted lit.now lits.now self.old) }
     {
         if self.coming == 0 {
-            self.begin(shape_at(lits)?)?;
+            self.begin(shape_at(lits))?;
         }
         let atom = self.atom(lit);
         self.lits.push(atom)?;
-        self.coming = coming_past(self.coming, lit)?;
+        self.coming = self
+            .coming
+            .saturating_sub(1)
+            .checked_add(parts(lit))
+            .ok_or(AllocError)?;
         Ok(())
     }
 
@@ -476,7 +479,7 @@ impl Quoted {
 }
 
 /// The rows and atoms of a program.
-pub(crate) fn flow_of(alloc: Global, named: &Named) -> Result<Flow, AllocError>
+pub fn flow_of(alloc: Global, named: &Named) -> Result<Flow, AllocError>
     ensures { IfOk result (λ flow. flow ≡ flow_of (form named.now)) }
 {
     let procs = named.procs.as_slice();

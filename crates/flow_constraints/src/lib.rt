@@ -9,6 +9,7 @@
 
 mod atoms;
 mod calls;
+mod census;
 mod constraints;
 mod counts;
 mod flow;
@@ -21,5 +22,8 @@ mod steps;
 mod tally;
 
 pub use constraints::generate;
+pub use counts::Counts;
 pub use flow::{Entries, Entry, Flow, Kind, Kinds};
 pub use law::rules_are_valid;
+pub use layout::flow_of;
+pub use steps::first_sites;

@@ -345,7 +345,7 @@ fn put_lambda(
 }
 
 /// How many sites stand before the first step: the closures of the procedures from 1 on, and the rest lists.
-fn first_sites(procs: &[Proc]) -> Result<u32, AllocError>
+pub fn first_sites(procs: &[Proc]) -> Result<u32, AllocError>
     ensures { IfOk result (λ sites. sites ≡ first_sites (map procedure procs.now)) }
 {
     let mut lists = 0u32;

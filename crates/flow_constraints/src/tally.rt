@@ -1,8 +1,9 @@
-//! How many rules a program has, counted before one is made.
+//! How many rules a program has, counted before one is made. A count is 2^64 - 1 where there are more.
 
 ghost use Rattle.std.specs.Prelude.{◌≡◌, ◌+◌, ◌<◌, length, map, vec_len, IfOk, OnOk};
 ghost use Rattle.named_form.specs.Written.{act_of, code, procedure};
 ghost use Rattle.flow_constraints.specs.declared.flow.Flow.{Flow as Facts};
+ghost use Rattle.flow_constraints.specs.Census.{cut};
 ghost use Rattle.flow_constraints.specs.Counting.{Remembers, applied_count, apply_count, applying_count, arms_count, call_count, code_count, enter_count, entering_count, holding_count, lambdas_count, list_count, own_count, procs_count, value_count};
 
 use crate::calls::takes;
@@ -21,13 +22,6 @@ pub(crate) struct Tally {
     pub(crate) entering: Vec<Option<u64>>,
 }
 
-/// A sum, where it has 64 bits.
-fn sum(count: u64, more: u64) -> Result<u64, AllocError>
-    ensures { IfOk result (λ sum. sum ≡ count + more) }
-{
-    count.checked_add(more).ok_or(AllocError)
-}
-
 /// How many rules the list of so many operands past the parameters has.
 fn list_rules(past: usize) -> u64
     ensures { result ≡ list_count past }
@@ -39,70 +33,77 @@ fn list_rules(past: usize) -> u64
     }
 }
 
+/// How many rules a block's value has.
+fn value_rules(value: Option<u32>) -> u64
+    ensures { result ≡ value_count value }
+{
+    match value {
+        None => 0,
+        Some(_) => 1,
+    }
+}
+
 /// How many rules a call of so many operands has for a procedure.
-fn enter_rules(entry: &Entry, operands: usize) -> Result<u64, AllocError>
-    ensures { IfOk result (λ rules. rules ≡ enter_count operands entry.now) }
+fn enter_rules(entry: &Entry, operands: usize) -> u64
+    ensures { result ≡ cut (enter_count operands entry.now) }
 {
     if !takes(entry, operands) {
-        return Ok(0);
+        return 0;
     }
-    let plain = sum(operands as u64, 2)?;
+    let plain = (operands as u64).saturating_add(2);
     match entry.rest {
-        None => Ok(plain),
-        Some(_) => sum(
-            plain,
-            list_rules(operands.saturating_sub(entry.params.len())),
-        ),
+        None => plain,
+        Some(_) => plain.saturating_add(list_rules(operands.saturating_sub(entry.params.len()))),
     }
 }
 
 /// How many rules a call of so many operands has for all procedures.
-fn entering_all(flow: &Flow, operands: usize) -> Result<u64, AllocError>
-    ensures { IfOk result (λ rules. rules ≡ entering_count operands flow.now.entries) }
+fn entering_all(flow: &Flow, operands: usize) -> u64
+    ensures { result ≡ cut (entering_count operands flow.now.entries) }
 {
     let mut rules = 0u64;
     for entry in flow.entries.as_slice() {
-        rules = sum(rules, enter_rules(entry, operands)?)?;
+        rules = rules.saturating_add(enter_rules(entry, operands));
     }
-    Ok(rules)
+    rules
 }
 
 /// How many rules an `Apply` has for a procedure.
-fn applied(entry: &Entry) -> Result<u64, AllocError>
-    ensures { IfOk result (λ rules. rules ≡ applied_count entry.now) }
+fn applied(entry: &Entry) -> u64
+    ensures { result ≡ cut (applied_count entry.now) }
 {
-    let plain = sum(entry.params.len() as u64, 2)?;
+    let plain = (entry.params.len() as u64).saturating_add(2);
     match entry.rest {
-        None => Ok(plain),
-        Some(_) => sum(plain, 5),
+        None => plain,
+        Some(_) => plain.saturating_add(5),
     }
 }
 
 /// How many rules an `Apply` has for all procedures.
-fn applying(flow: &Flow) -> Result<u64, AllocError>
-    ensures { IfOk result (λ rules. rules ≡ applying_count flow.now.entries) }
+fn applying(flow: &Flow) -> u64
+    ensures { result ≡ cut (applying_count flow.now.entries) }
 {
     let mut rules = 0u64;
     for entry in flow.entries.as_slice() {
-        rules = sum(rules, applied(entry)?)?;
+        rules = rules.saturating_add(applied(entry));
     }
-    Ok(rules)
+    rules
 }
 
 /// How many rules an operation has that makes, reads or writes what has contents.
-fn holding(flow: &Flow, op: Op) -> Result<u64, AllocError>
-    ensures { IfOk result (λ rules. rules ≡ holding_count flow.now op) }
+fn holding(flow: &Flow, op: Op) -> u64
+    ensures { result ≡ cut (holding_count flow.now op) }
 {
     match op {
-        Op::Cons => Ok(3),
-        Op::MakeVector | Op::MakeSymbol => Ok(2),
-        Op::MakeString => Ok(1),
-        Op::Car | Op::Cdr => Ok(flow.pairs.len() as u64),
-        Op::VectorRef => Ok(flow.vectors.len() as u64),
-        Op::SymbolName => sum(flow.symbols.len() as u64, 1),
-        Op::SetCar | Op::SetCdr => Ok(flow.fresh_pairs.len() as u64),
-        Op::VectorSet => Ok(flow.fresh_vectors.len() as u64),
-        _ => Ok(0),
+        Op::Cons => 3,
+        Op::MakeVector | Op::MakeSymbol => 2,
+        Op::MakeString => 1,
+        Op::Car | Op::Cdr => flow.pairs.len() as u64,
+        Op::VectorRef => flow.vectors.len() as u64,
+        Op::SymbolName => (flow.symbols.len() as u64).saturating_add(1),
+        Op::SetCar | Op::SetCdr => flow.fresh_pairs.len() as u64,
+        Op::VectorSet => flow.fresh_vectors.len() as u64,
+        _ => 0,
     }
 }
 
@@ -118,12 +119,18 @@ impl Tally {
         }
     }
 
-    /// Counts rules.
-    fn add(&mut self, rules: u64) -> Result<(), AllocError>
-        ensures { OnOk result (self.new ≡ record self.old { rules = self.old.rules + rules }) }
+    /// How many rules have been counted, which 64 bits hold.
+    fn count(&self) -> u64
+        ensures { result ≡ cut self.now.rules }
     {
-        self.rules = sum(self.rules, rules)?;
-        Ok(())
+        self.rules
+    }
+
+    /// Counts rules.
+    fn add(&mut self, rules: u64)
+        ensures { self.new ≡ record self.old { rules = cut (self.old.rules + rules) } }
+    {
+        self.rules = self.rules.saturating_add(rules);
     }
 
     /// Makes room for what is remembered of so many operands.
@@ -141,7 +148,7 @@ impl Tally {
     /// How many rules a call of so many operands has for all procedures: each count of operands is counted once.
     fn entering(&mut self, flow: &Flow, operands: usize) -> Result<u64, AllocError>
         requires { Remembers flow.now self.old }
-        ensures counted { IfOk result (λ rules. rules ≡ entering_count operands flow.now.entries) }
+        ensures counted { IfOk result (λ rules. rules ≡ cut (entering_count operands flow.now.entries)) }
         ensures remembers { OnOk result (Remembers flow.now self.new) }
         ensures rules { self.new.rules ≡ self.old.rules }
     {
@@ -149,7 +156,7 @@ impl Tally {
         if let Some(rules) = self.entering[operands] {
             return Ok(rules);
         }
-        let rules = entering_all(flow, operands)?;
+        let rules = entering_all(flow, operands);
         self.entering[operands] = Some(rules);
         Ok(rules)
     }
@@ -157,36 +164,33 @@ impl Tally {
     /// Counts a call of so many operands.
     fn meet_call(&mut self, flow: &Flow, operands: usize) -> Result<(), AllocError>
         requires { Remembers flow.now self.old }
-        ensures rules { OnOk result (self.new.rules ≡ self.old.rules + call_count flow.now operands) }
+        ensures rules { OnOk result (self.new.rules ≡ cut (self.old.rules + call_count flow.now operands)) }
         ensures remembers { OnOk result (Remembers flow.now self.new) }
     {
         let rules = self.entering(flow, operands)?;
-        self.add(rules)?;
+        self.add(rules);
         if operands == 1 {
-            self.add(flow.continuations.len() as u64)?;
+            self.add(flow.continuations.len() as u64);
         }
         Ok(())
     }
 
     /// Counts an `Apply`.
-    fn meet_apply(&mut self, flow: &Flow) -> Result<(), AllocError>
-        ensures { OnOk result (self.new ≡ record self.old { rules = self.old.rules + apply_count flow.now }) }
+    fn meet_apply(&mut self, flow: &Flow)
+        ensures { self.new ≡ record self.old { rules = cut (self.old.rules + apply_count flow.now) } }
     {
-        self.add(1)?;
-        self.add(flow.pairs.len() as u64)?;
-        self.add(flow.pairs.len() as u64)?;
-        self.add(applying(flow)?)?;
-        self.add(flow.continuations.len() as u64)
+        self.add(1);
+        self.add(flow.pairs.len() as u64);
+        self.add(flow.pairs.len() as u64);
+        self.add(applying(flow));
+        self.add(flow.continuations.len() as u64);
     }
 
     /// Counts the rule of a block's value.
-    fn meet_value(&mut self, value: Option<u32>) -> Result<(), AllocError>
-        ensures { OnOk result (self.new ≡ record self.old { rules = self.old.rules + value_count value }) }
+    fn meet_value(&mut self, value: Option<u32>)
+        ensures { self.new ≡ record self.old { rules = cut (self.old.rules + value_count value) } }
     {
-        match value {
-            None => Ok(()),
-            Some(_) => self.add(1),
-        }
+        self.add(value_rules(value));
     }
 
     /// Counts the rules of a step, those of its arms' steps aside.
@@ -199,33 +203,49 @@ impl Tally {
         act: &Act,
     ) -> Result<(), AllocError>
         requires { Remembers flow.now self.old }
-        ensures rules { OnOk result (self.new.rules ≡ self.old.rules + own_count flow.now lits.now vars (act_of act.now)) }
+        ensures rules { OnOk result (self.new.rules ≡ cut (self.old.rules + own_count flow.now lits.now vars (act_of act.now))) }
         ensures remembers { OnOk result (Remembers flow.now self.new) }
     {
         match act {
             Act::Const { lit } => {
-                self.add(1)?;
-                self.add(parts_under(alloc, flow, lits, *lit)?.len() as u64)
+                let parts = parts_under(alloc, flow, lits, *lit)?;
+                self.add(1);
+                self.add(parts.len() as u64);
+                Ok(())
             }
             Act::Prim { op, .. } => {
-                self.add(results(*op).len() as u64)?;
-                self.add(holding(flow, *op)?)
+                self.add(results(*op).len() as u64);
+                self.add(holding(flow, *op));
+                Ok(())
             }
             Act::Call { operands, .. } => self.meet_call(flow, operands.len()),
-            Act::Apply { .. } => self.meet_apply(flow),
+            Act::Apply { .. } => {
+                self.meet_apply(flow);
+                Ok(())
+            }
             Act::CallCC { .. } => {
-                self.add(1)?;
+                self.add(1);
                 self.meet_call(flow, 1)
             }
             Act::If { yes, no, .. } => {
-                self.add(2)?;
-                self.meet_value(yes.value)?;
-                self.meet_value(no.value)
+                self.add(2);
+                self.meet_value(yes.value);
+                self.meet_value(no.value);
+                Ok(())
             }
-            Act::Fix { procs } => self.add(vars.min(procs.len()) as u64),
+            Act::Fix { procs } => {
+                self.add(vars.min(procs.len()) as u64);
+                Ok(())
+            }
             Act::MakeBox { .. } | Act::SetBox { .. } | Act::TopSet { .. } | Act::TopDefine { .. } =>
-                self.add(2),
-            _ => self.add(1),
+                {
+                    self.add(2);
+                    Ok(())
+                }
+            _ => {
+                self.add(1);
+                Ok(())
+            }
         }
     }
 }
@@ -240,7 +260,7 @@ fn meet_block(
     block: &Block,
 ) -> Result<(), AllocError>
     requires { Remembers flow.now tally.old }
-    ensures rules { OnOk result (tally.new.rules ≡ tally.old.rules + code_count flow.now lits.now (code block.now)) }
+    ensures rules { OnOk result (cut tally.new.rules ≡ cut (tally.old.rules + code_count flow.now lits.now (code block.now))) }
     ensures remembers { OnOk result (Remembers flow.now tally.new) }
 {
     for step in block.steps.as_slice() {
@@ -260,7 +280,7 @@ fn meet_arms(
     act: &Act,
 ) -> Result<(), AllocError>
     requires { Remembers flow.now tally.old }
-    ensures rules { OnOk result (tally.new.rules ≡ tally.old.rules + arms_count flow.now lits.now (act_of act.now)) }
+    ensures rules { OnOk result (cut tally.new.rules ≡ cut (tally.old.rules + arms_count flow.now lits.now (act_of act.now))) }
     ensures remembers { OnOk result (Remembers flow.now tally.new) }
 {
     match act {
@@ -279,16 +299,16 @@ pub(crate) fn count_rules(
     lits: &[Lit],
     procs: &[Proc],
 ) -> Result<u64, AllocError>
-    ensures { IfOk result (λ count. count ≡ procs_count flow.now lits.now (map procedure procs.now)) }
+    ensures { IfOk result (λ count. count ≡ cut (procs_count flow.now lits.now (map procedure procs.now))) }
 {
     let Some((main, lambdas)) = procs.split_first() else {
         return Ok(0);
     };
     let mut tally = Tally::new(alloc);
-    tally.add(1)?;
+    tally.add(1);
     meet_block(&mut tally, alloc, flow, lits, &main.body)?;
     meet_lambdas(&mut tally, alloc, flow, lits, lambdas)?;
-    Ok(tally.rules)
+    Ok(tally.count())
 }
 
 /// Counts the rules of the procedures from 1 on.
@@ -300,12 +320,12 @@ fn meet_lambdas(
     lambdas: &[Proc],
 ) -> Result<(), AllocError>
     requires { Remembers flow.now tally.old }
-    ensures rules { OnOk result (tally.new.rules ≡ tally.old.rules + lambdas_count flow.now lits.now (map procedure lambdas.now)) }
+    ensures rules { OnOk result (cut tally.new.rules ≡ cut (tally.old.rules + lambdas_count flow.now lits.now (map procedure lambdas.now))) }
     ensures remembers { OnOk result (Remembers flow.now tally.new) }
 {
     for proc in lambdas {
         meet_block(tally, alloc, flow, lits, &proc.body)?;
-        tally.meet_value(proc.body.value)?;
+        tally.meet_value(proc.body.value);
     }
     Ok(())
 }

@@ -3,6 +3,7 @@ use Rattle.std.proofs.lemmas.Option.{MatchOption-at_some}
 use Rattle.flow_form.specs.Shape.{IsMadeOf}
 use Rattle.named_form.specs.Code.{first_sites}
 use Rattle.named_form.specs.Written.{form, procedure}
+use Rattle.flow_constraints.specs.Census.{cut}
 use Rattle.flow_constraints.specs.Counting.{procs_count}
 use Rattle.flow_constraints.specs.Walk.{put_procs}
 use Rattle.flow_constraints.proofs.ProgramFits.{rules_valid}
@@ -13,13 +14,12 @@ pub returns-in-Some-past-clause-refused : goal.returns-in-Some-past-clause-refus
 returns-in-Some-past-clause-refused c =
     let n = c.args.named.now in
     let flow = c.in-Ok.flow in
-    let atoms = c.in-Ok-narrow.atoms in
     let count = c.in-Ok-count_rules.count in
-    rules_decide (form n) flow atoms count _ c.in-Ok.ensures (c.in-Ok-narrow.ensures ∙ c.len.ensures)
-    (sym c.table_limit.ensures ∙ c.in_default-table_limit.is)
+    rules_decide (form n) flow c.of-census.result.rows c.of-census.result.atoms count _ c.in-Ok.ensures c.of-census.ensures.rows
+    c.of-census.ensures.atoms (sym c.table_limit.ensures ∙ c.in_default.is)
     (c.in-Ok-count_rules.ensures
-    ∙ (ap (λ ls. procs_count flow ls (map procedure c.as_slice-procs.result.now)) c.as_slice-lits.ensures
-    ∙ ap (λ ps. procs_count flow n.lits (map procedure ps)) c.as_slice-procs.ensures))
+    ∙ (ap (λ ls. cut (procs_count flow ls (map procedure c.as_slice-procs.result.now))) c.as_slice-lits.ensures
+    ∙ ap (λ ps. cut (procs_count flow n.lits (map procedure ps))) c.as_slice-procs.ensures))
     (sym c.past.ensures ∙ c.in-Some-past.is)
 
 pub returns-in-Some-made-clause-made : goal.returns-in-Some-made-clause-made
@@ -43,17 +43,16 @@ pub returns-in-Some-made-clause-within : goal.returns-in-Some-made-clause-within
 returns-in-Some-made-clause-within c =
     let n = c.args.named.now in
     let flow = c.in-Ok.flow in
-    let atoms = c.in-Ok-narrow.atoms in
     let count = c.in-Ok-count_rules.count in
-    rules_decide (form n) flow atoms count _ c.in-Ok.ensures (c.in-Ok-narrow.ensures ∙ c.len.ensures)
-    (sym c.table_limit.ensures ∙ c.in_default-table_limit.is)
+    rules_decide (form n) flow c.of-census.result.rows c.of-census.result.atoms count _ c.in-Ok.ensures c.of-census.ensures.rows
+    c.of-census.ensures.atoms (sym c.table_limit.ensures ∙ c.in_default.is)
     (c.in-Ok-count_rules.ensures
-    ∙ (ap (λ ls. procs_count flow ls (map procedure c.as_slice-procs.result.now)) c.as_slice-lits.ensures
-    ∙ ap (λ ps. procs_count flow n.lits (map procedure ps)) c.as_slice-procs.ensures))
+    ∙ (ap (λ ls. cut (procs_count flow ls (map procedure c.as_slice-procs.result.now))) c.as_slice-lits.ensures
+    ∙ ap (λ ps. cut (procs_count flow n.lits (map procedure ps))) c.as_slice-procs.ensures))
     (sym c.past.ensures ∙ c.in_default-past.is)
 
-pub returns-in_default-clause-valid : goal.returns-in_default-clause-valid
-returns-in_default-clause-valid c = rules_valid (form c.args.named.now)
+pub returns-in_default-flow_of-clause-valid : goal.returns-in_default-flow_of-clause-valid
+returns-in_default-flow_of-clause-valid c = rules_valid (form c.args.named.now)
 
 pub returns-in_default-narrow-clause-valid : goal.returns-in_default-narrow-clause-valid
 returns-in_default-narrow-clause-valid c = rules_valid (form c.args.named.now)

@@ -1,5 +1,6 @@
 use Rattle.std.proofs.Common.{◌≡◌, ◌+◌, ℕ, arith, sym, ap, ◌∙◌}
 use Rattle.named_form.proofs.Folds.{none_left, all_left}
+use Rattle.flow_constraints.specs.Census.{cut}
 use Rattle.flow_constraints.specs.Counting.{code_count}
 use Rattle.flow_constraints.proofs.tally.+tally.Goals as goal
 
@@ -14,9 +15,9 @@ meet_block-returns t c =
     let all = all_left c.args.block.now c.as_slice-step-items.result.now c.as_slice-step-items.ensures in
     record {
       rules =
-          no_more c.loop-step.tally.rules
-          ∙ (sym (ap (λ code. c.loop-step.tally.rules + code_count f lits code) none)
+          ap cut (no_more c.loop-step.tally.rules)
+          ∙ (sym (ap (λ code. cut (c.loop-step.tally.rules + code_count f lits code)) none)
           ∙ (c.loop-step.invariant.counted
-          ∙ ap (λ code. c.args.tally.now.rules + code_count f lits code) all));
+          ∙ ap (λ code. cut (c.args.tally.now.rules + code_count f lits code)) all));
       remembers = c.loop-step.invariant.remembers;
     }

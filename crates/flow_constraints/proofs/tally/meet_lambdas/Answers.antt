@@ -9,6 +9,6 @@ loop-proc-preserved c =
     let more = lambdas_more c.args.flow.now c.args.lits.now ps c.loop-proc.proc-index c.proc-item.result within c.proc-item.is in
     record {
       counted =
-          omega (arith, more, ap (λ t. t.rules) c.in_ok-meet_value.ensures, c.in_ok-meet_block.ensures.rules, c.loop-proc.invariant.counted);
+          omega (arith, more, ap (λ t. t.rules) c.meet_value.ensures, c.in_ok-meet_block.ensures.rules, c.loop-proc.invariant.counted);
       remembers = search rules;
     }
