@@ -1,0 +1,6 @@
+mod Listing
+mod Linking
+mod Joining
+mod Marking
+mod Sets
+mod Gathering

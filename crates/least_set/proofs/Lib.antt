@@ -1,0 +1,6 @@
+pub mod Has
+mod Marks
+mod Marked
+pub mod Nexts
+mod Spreading
+mod Linking

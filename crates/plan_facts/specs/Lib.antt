@@ -1,0 +1,5 @@
+pub mod Places
+pub mod Walk
+pub mod Pairs
+pub mod Calls
+pub mod Capturing
