@@ -12,7 +12,7 @@ use Rattle.named_form.specs.Code as act
 use Rattle.named_form.specs.Written.{Onto, act_layer, act_of, block_layer, code, onto, step_layer}
 use Rattle.named_form.proofs.Folds.{step_out, code_out}
 use Rattle.box_name.specs.declared.namer.Namer.{Namer}
-use Rattle.box_name.specs.Steps.{last_of, linked, PutsStep, Binds}
+use Rattle.box_name.specs.NamingSteps.{last_of, linked, PutsStep, Binds}
 
 pub const_is : (l : ℕ) → act_of (made.Const l) ≡ act.Const l
 const_is l = ap act_of (sym (made.rolls-Const l)) ∙ fold-roll-Act (Act Pos) (Code Pos) Onto act_layer block_layer step_layer (layer.Const l)

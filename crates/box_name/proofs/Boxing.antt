@@ -12,7 +12,7 @@ use Rattle.box_name.specs.declared.namer.Namer.{Namer}
 use Rattle.box_name.specs.Told.{Expr, Lambda, number, numbers, option_number}
 use Rattle.box_name.specs.Counts.{procs_in, after, places, all_params, after_boxes, box_places}
 use Rattle.box_name.specs.Naming.{Setting, value, code, make_boxes, rest_var, written}
-use Rattle.box_name.specs.Steps.{linked, Agrees, Notes, Takes, Emits, EmitsExpr, Settles}
+use Rattle.box_name.specs.NamingSteps.{linked, Agrees, Notes, Takes, Emits, EmitsExpr, Settles}
 use Rattle.box_name.specs.Procedures.{TakesVars, TakesRest, SettlesAll, NamesProc}
 use Rattle.box_name.proofs.Acts.{block_is}
 use Rattle.box_name.proofs.Putting.{earlier, notes_none, notes_then, emits_then, emits_as, emits_none}

@@ -19,7 +19,7 @@ use Rattle.box_name.specs.declared.namer.Namer.{Namer}
 use Rattle.box_name.specs.Told.{Expr, Const, Local, Top, Lambda, If, SetLocal, SetTop, Call, Direct, Prim, Seq, Fix, Define, Exprs, none, item, told, numbers, option_number}
 use Rattle.box_name.specs.Counts.{procs_in, all_procs_in, after, all_after, places, all_places, have_values, after_params, param_places, var_places}
 use Rattle.box_name.specs.Naming.{Setting, place, value, values, last_value, all_valued, code, all_code, operation, bind_params, procs_of}
-use Rattle.box_name.specs.Steps.{linked, Agrees, Notes, Takes, PutsOne, Binds, TakesProc, Emits, EmitsExpr, EmitsAll, EmitsOperands, BindsParams, IsLambdaAt, MakesArm, with_proc, last_of}
+use Rattle.box_name.specs.NamingSteps.{linked, Agrees, Notes, Takes, PutsOne, Binds, TakesProc, Emits, EmitsExpr, EmitsAll, EmitsOperands, BindsParams, IsLambdaAt, MakesArm, with_proc, last_of}
 use Rattle.box_name.proofs.Acts.{block_is}
 use Rattle.box_name.proofs.Putting.{earlier, found_at, notes_then, notes_none, notes_next, notes_as, notes_from, next_is, emits_then, emits_as, emits_none, emits_step, emits_next, finish}
 

@@ -1,5 +1,5 @@
 -- Loops over the forms of a program and over its procedures.
-use Rattle.std.proofs.Common.{◌≡◌, ℕ, suc, ◌+◌, List, [], ◌∷◌, ◌++◌, map, length, Option, None, Some, refl, sym, ap, subst, ◌∙◌, append_assoc, append-nil, arith}
+use Rattle.std.proofs.Common.{◌≡◌, ℕ, suc, ◌+◌, ◌<◌, ◌^◌, List, [], ◌∷◌, ◌++◌, map, length, Option, None, Some, refl, sym, ap, subst, ◌∙◌, append_assoc, append-nil, arith}
 use Rattle.scheme_base.specs.declared.pos.Pos.{Pos}
 use Rattle.scheme_base.specs.declared.lit.Lit.{Lit}
 use Rattle.core_form.specs.declared.program.Node.{Node}
@@ -17,10 +17,10 @@ use Rattle.box_name.specs.declared.survey.Origin.{Origin}
 use Rattle.box_name.specs.Told.{Expr, Exprs, told, all_told}
 use Rattle.box_name.specs.Counts.{procs_in, all_procs_in, after, all_after, places, all_places, after_lambda, lambda_places}
 use Rattle.box_name.specs.Naming.{Setting, code, written}
-use Rattle.box_name.specs.Whole.{all_written, form_code, is_boxed, lambdas_places, setting}
-use Rattle.box_name.specs.Steps.{linked, Agrees, Notes, Emits, EmitsExpr}
+use Rattle.box_name.specs.Whole.{after_lambdas, all_written, form_code, is_boxed, lambdas_places, setting}
+use Rattle.box_name.specs.NamingSteps.{linked, Agrees, Notes, Emits, EmitsExpr}
 use Rattle.box_name.specs.Finding.{ArePlaced}
-use Rattle.box_name.specs.Procedures.{NamesProc, NamesProcs, NamesProgram}
+use Rattle.box_name.specs.Procedures.{NamesProc, NamesProcs, NamesProgram, NumbersFit}
 use Rattle.box_name.proofs.Acts.{block_is}
 use Rattle.box_name.proofs.Putting.{earlier, notes_none, emits_then, emits_none}
 
@@ -159,6 +159,8 @@ pub record Making (core : Program VarRef) (all : Exprs) (a b : Namer) (before no
   pub places : lambdas_places (is_boxed all) n ls ≡ noted ++ lambdas_places (is_boxed all) b.next_var others
   pub procs : Agrees b (setting all 0) → map procedure now ≡ map procedure before ++ made
   pub written : all_written all n 1 ls ≡ made ++ all_written all b.next_var p others
+  pub after : after_lambdas (is_boxed all) n ls ≡ after_lambdas (is_boxed all) b.next_var others
+  pub many : suc (length ls) ≡ p + length others
 
 module _ (core : Program VarRef) (all : Exprs) (a : Namer) (before : List Proc) (ls : List (ℕ × Expr)) (n : ℕ) where
   pub making_begins : (origins left : List Origin) → ArePlaced core origins ls → left ≡ origins → a.next_var ≡ n
@@ -173,6 +175,8 @@ module _ (core : Program VarRef) (all : Exprs) (a : Namer) (before : List Proc) 
         places = ap (λ u. lambdas_places (is_boxed all) u ls) (sym at);
         procs = λ agrees. sym (append-nil (map procedure before));
         written = ap (λ u. all_written all u 1 ls) (sym at);
+        after = ap (λ u. after_lambdas (is_boxed all) u ls) (sym at);
+        many = omega arith;
       }
 
   -- b is the naming before the next procedure's number was set, and b1 that after
@@ -192,6 +196,7 @@ module _ (core : Program VarRef) (all : Exprs) (a : Namer) (before : List Proc) 
           subst (λ f. NamesProc (setting all f) m p b1 c l.1 proc) st.0
           (subst (λ x. NamesProc (setting all o.form) m p b1 c x proc) st.3 (one st.1 st.2 m p)) at proc_at in
           let noted = lambda_places (is_boxed all) m l.1 in
+          let many : suc (length ls) ≡ p + suc (length ms) = g.many ∙ ap (λ u. p + length u) e in
           record {
             others = ms;
             noted = g.noted ++ noted;
@@ -219,6 +224,10 @@ module _ (core : Program VarRef) (all : Exprs) (a : Namer) (before : List Proc) 
                 ∙ (ap (λ u. g.made ++ (written (setting all l.0) m p l.1 ∷ all_written all u (suc p) ms)) (sym done.1)
                 ∙ (ap (λ u. g.made ++ (written (setting all l.0) m p l.1 ∷ all_written all c.next_var u ms)) (sym next)
                 ∙ sym (append_assoc g.made (written (setting all l.0) m p l.1 ∷ []) (all_written all c.next_var p' ms)))));
+            after =
+                g.after
+                ∙ (ap (λ u. after_lambdas (is_boxed all) m u) e ∙ ap (λ u. after_lambdas (is_boxed all) u ms) (sym done.1));
+            many = omega (arith, many, next);
           }
         where
           back : Agrees c (setting all 0) → (P : List (ℕ × ℕ)) → c.vars.entries ≡ b1.vars.entries ++ P → Agrees b (setting all 0)
@@ -243,3 +252,17 @@ module _ (core : Program VarRef) (all : Exprs) (a : Namer) (before : List Proc) 
             ∙ ap (λ u. map procedure before ++ u)
             (sym (g.written ∙ (ap (λ u. g.made ++ all_written all b.next_var p u) e ∙ append-nil g.made))),
       )
+
+  -- at the end the next variable is the one after all, and so is the next procedure
+  pub making_fits : (b : Namer) (now : List Proc) (p : ℕ) (left : List Origin) → Making core all a b before now ls n p left → left ≡ []
+      → p < 2 ^ 32 → b.next_var < 2 ^ 32 → NumbersFit all n ls
+  making_fits b now p left g is fits var_fits = by g.others refl
+    where
+      by : (t : List (ℕ × Expr)) → g.others ≡ t → NumbersFit all n ls
+      by (l ∷ ms) e =
+          absurd (subst (λ u. ArePlaced core u (l ∷ ms)) is (subst (λ u. ArePlaced core left u) e g.placed))
+      by [] e =
+          let many : suc (length ls) ≡ p + 0 = g.many ∙ ap (λ u. p + length u) e in
+          let after : after_lambdas (is_boxed all) n ls ≡ b.next_var =
+          g.after ∙ ap (λ u. after_lambdas (is_boxed all) b.next_var u) e in
+          record { procs = omega (arith, many, fits); vars = subst (λ u. u < 2 ^ 32) (sym after) var_fits }

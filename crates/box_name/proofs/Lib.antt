@@ -1,4 +1,5 @@
 mod Acts
+mod AllParts
 mod Boxing
 mod Emitting
 mod Finding

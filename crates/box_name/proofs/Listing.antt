@@ -13,7 +13,7 @@ use Rattle.box_name.specs.declared.namer.Namer.{Namer}
 use Rattle.box_name.specs.Told.{Expr, Exprs, told, all_told, told_operand, told_operands}
 use Rattle.box_name.specs.Counts.{procs_in, all_procs_in, after, all_after, places, all_places, has_value, have_values, after_param, after_params, param_place, param_places}
 use Rattle.box_name.specs.Naming.{Setting, value, values, valued, all_valued, code, all_code, bind_param, bind_params}
-use Rattle.box_name.specs.Steps.{linked, Agrees, Notes, Emits, EmitsExpr, EmitsAll, EmitsOperand, EmitsOperands, BindsParam, BindsParams}
+use Rattle.box_name.specs.NamingSteps.{linked, Agrees, Notes, Emits, EmitsExpr, EmitsAll, EmitsOperand, EmitsOperands, BindsParam, BindsParams}
 use Rattle.box_name.proofs.Putting.{earlier, notes_none, emits_then, emits_as, emits_none}
 
 assoc : (i j k : ℕ) → i + j + k ≡ i + (j + k)

@@ -14,7 +14,7 @@ use Rattle.box_name.specs.declared.namer.Namer.{Namer}
 use Rattle.box_name.specs.Told.{Exprs, told, all_told, number, numbers}
 use Rattle.box_name.specs.Counts.{procs_in, all_procs_in, var_places}
 use Rattle.box_name.specs.Naming.{Setting, procs_of}
-use Rattle.box_name.specs.Steps.{linked, PutsStep, Notes, Binds, Takes, TakesProc, TakesProcs, NotesVars, PutsFix, Emits, Settles, BindsParam, with_next, with_proc}
+use Rattle.box_name.specs.NamingSteps.{linked, PutsStep, Notes, Binds, Takes, TakesProc, TakesProcs, NotesVars, PutsFix, Emits, Settles, BindsParam, with_next, with_proc}
 use Rattle.box_name.specs.Procedures.{TakesVars}
 use Rattle.box_name.proofs.Putting.{next_is, notes_none, notes_then, notes_as, emits_then, emits_as, emits_none, emits_next, emits_step}
 

@@ -1,7 +1,9 @@
--- The local variables of a program are numbered in the order of its procedures and their steps.
-use Rattle.std.proofs.Common.{◌≡◌, ℕ, suc, ◌+◌, ◌-◌, ◌≤◌, Bool, true, false, List, [], ◌∷◌, ◌++◌, length, map, Option, Some, None, refl, sym, ap, ◌∙◌, subst, arith, length-append}
+-- The local variables of a program are numbered in the order of its procedures and their steps, and how many there
+-- are.
+use Rattle.std.proofs.Common.{◌≡◌, ℕ, suc, ◌+◌, ◌-◌, ◌≤◌, ◌<◌, ◌^◌, Bool, true, false, List, [], ◌∷◌, ◌++◌, length, map, Option, Some, None, refl, sym, ap, ◌∙◌, subst, arith, length-append}
 use Rattle.std.specs.Prelude.{if◌then◌else◌, is_some}
 use Rattle.std.specs.List.{flat_map}
+use Rattle.scheme_base.specs.declared.lit.Lit.{Lit}
 use Rattle.scheme_base.specs.declared.op.Op.{Op}
 use Rattle.scheme_base.specs.declared.op.Op.TheVariants as op
 use Rattle.scheme_base.specs.declared.pos.Pos.{Pos}
@@ -10,14 +12,15 @@ use Rattle.core_form.specs.declared.program.VarRef.{VarRef}
 use Rattle.core_form.specs.Trees.{Trees}
 use Rattle.named_form.specs.Code.{Code, Ends, Then, Act, Written, arms_bind, binds, bound_in, option_list}
 use Rattle.named_form.specs.Code as act
-use Rattle.named_form.specs.Valid.{Numbered, numbers_from}
+use Rattle.named_form.specs.Valid.{Counted, Numbered, numbers_from}
 use Rattle.named_form.proofs.Kept.{length_numbers}
 use Rattle.named_form.proofs.Rising.{numbers_append}
 use Rattle.box_name.specs.Told.{Expr, Hole, Const, Local, Top, Lambda, If, SetLocal, SetTop, Call, Direct, Prim, Seq, Fix, Define, Exprs, none, item, all_told}
 use Rattle.box_name.specs.Counts.{after, after_boxes, after_lambda, after_param, after_params, all_after, all_params, all_procs_in, has_value, have_values, procs_in}
 use Rattle.box_name.specs.Cores.{form_of}
 use Rattle.box_name.specs.Naming.{Setting, all_code, all_valued, bind_param, bind_params, code, make_boxes, operation, place, rest_var, value, valued, values, written}
-use Rattle.box_name.specs.Whole.{all_written, form_code, is_boxed, placed_lambdas, setting}
+use Rattle.box_name.specs.Procedures.{NumbersFit}
+use Rattle.box_name.specs.Whole.{after_lambdas, all_written, form_code, is_boxed, named, placed_lambdas, setting}
 
 -- the numbers from n up to m, m excluded
 pub record NumbersTo (n m : ℕ) (xs : List ℕ) : Type 0 where
@@ -206,10 +209,6 @@ lambda_numbers s n p e = none_of n
 
 -- Programs
 
-abbrev after_lambdas : (boxed : ℕ → Bool) → (n : ℕ) → List (ℕ × Expr) → ℕ
-after_lambdas boxed n [] = n
-after_lambdas boxed n (l ∷ ls) = after_lambdas boxed (after_lambda boxed n l.1) ls
-
 lambdas_numbers : (all : Exprs) (n p : ℕ) (ls : List (ℕ × Expr))
     → NumbersTo n (after_lambdas (is_boxed all) n ls) (flat_map bound_in (all_written all n p ls))
 lambdas_numbers all n p [] = none_of n
@@ -230,12 +229,40 @@ forms_numbers all f n p (item e es) =
 all_from : (m : ℕ) (xs : List ℕ) → NumbersTo 0 m xs → xs ≡ numbers_from 0 (length xs)
 all_from m xs h = h.are ∙ ap (numbers_from 0) (sym (ap length h.are ∙ length_numbers 0 (m - 0)))
 
+-- the variables of a program are the numbers from 0 up to the last one's
+whole_numbers : (es : Exprs) (lits : List Lit)
+    → NumbersTo 0 (after_lambdas (is_boxed es) (all_after (is_boxed es) 0 es) (placed_lambdas 0 es)) (flat_map bound_in (named es lits).procs)
+whole_numbers es lits =
+    let k = all_after (is_boxed es) 0 es in
+    let ls = placed_lambdas 0 es in
+    both 0 k (after_lambdas (is_boxed es) k ls) (binds (form_code es 0 0 1 es)) (flat_map bound_in (all_written es k 1 ls))
+    (forms_numbers es 0 0 1 es) (lambdas_numbers es k 1 ls)
+
 pub all_numbered : (core : Program VarRef) (forms : Trees VarRef) → Numbered (form_of core forms).procs
 all_numbered core forms =
     let es = all_told core.lits forms in
-    let k = all_after (is_boxed es) 0 es in
-    let ls = placed_lambdas 0 es in
-    let m = after_lambdas (is_boxed es) k ls in
-    all_from m (binds (form_code es 0 0 1 es) ++ flat_map bound_in (all_written es k 1 ls))
-    (both 0 k m (binds (form_code es 0 0 1 es)) (flat_map bound_in (all_written es k 1 ls)) (forms_numbers es 0 0 1 es)
-    (lambdas_numbers es k 1 ls))
+    all_from (after_lambdas (is_boxed es) (all_after (is_boxed es) 0 es) (placed_lambdas 0 es))
+    (flat_map bound_in (form_of core forms).procs) (whole_numbers es core.lits)
+
+-- How many there are
+
+many_to : (m : ℕ) (xs : List ℕ) → NumbersTo 0 m xs → length xs ≡ m
+many_to m xs h = ap length h.are ∙ (length_numbers 0 (m - 0) ∙ omega arith)
+
+many_written : (all : Exprs) (n p : ℕ) (ls : List (ℕ × Expr)) → length (all_written all n p ls) ≡ length ls
+many_written all n p [] = refl
+many_written all n p (l ∷ ls) = ap suc (many_written all (after_lambda (is_boxed all) n l.1) (suc p) ls)
+
+-- the numbers of a program have 32 bits where those of its last procedure and its last variable have
+pub all_counted : (all : Exprs) (lits : List Lit) → NumbersFit all (all_after (is_boxed all) 0 all) (placed_lambdas 0 all)
+    → Counted (named all lits).procs
+all_counted all lits fit =
+    let k = all_after (is_boxed all) 0 all in
+    let ls = placed_lambdas 0 all in
+    record {
+      procs = subst (λ n. suc n < 2 ^ 32) (sym (many_written all k 1 ls)) fit.procs;
+      vars =
+          subst (λ n. n < 2 ^ 32)
+          (sym (many_to (after_lambdas (is_boxed all) k ls) (flat_map bound_in (named all lits).procs) (whole_numbers all lits)))
+          fit.vars;
+    }

@@ -8,7 +8,7 @@ use Rattle.named_form.specs.Code.{Code, Then, Act}
 use Rattle.named_form.specs.Written.{Onto}
 use Rattle.box_name.specs.declared.namer.Namer.{Namer}
 use Rattle.box_name.specs.Naming.{Setting, found, place}
-use Rattle.box_name.specs.Steps.{linked, PutsStep, Binds, with_next, Agrees, Notes, Emits}
+use Rattle.box_name.specs.NamingSteps.{linked, PutsStep, Binds, with_next, Agrees, Notes, Emits}
 
 -- Places
 

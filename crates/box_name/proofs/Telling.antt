@@ -14,7 +14,7 @@ use Rattle.box_name.specs.Told.{Expr, Hole, Const, Local, Top, Lambda, If, SetLo
 use Rattle.box_name.specs.Counts.{has_value}
 use Rattle.box_name.specs.Whole.{unvalued}
 use Rattle.box_name.specs.Naming.{Setting, value, valued}
-use Rattle.box_name.specs.Steps.{IsDirect, EmitsExpr, EmitsOperand}
+use Rattle.box_name.specs.NamingSteps.{IsDirect, EmitsExpr, EmitsOperand}
 use Rattle.box_name.proofs.Putting.{notes_none, emits_none, emits_as}
 
 count_is : (exprs : List (Node VarRef)) (ids : List ℕ) (es : Trees VarRef) → StandAll exprs ids es → count es ≡ length ids

@@ -8,7 +8,7 @@ use Rattle.box_name.specs.declared.namer.Namer.{Namer}
 use Rattle.box_name.specs.Told.{Exprs}
 use Rattle.box_name.specs.Counts.{all_after}
 use Rattle.box_name.specs.Whole.{all_written, is_boxed, lambdas_places, named, placed_lambdas, setting, tops_of}
-use Rattle.box_name.specs.Steps.{Agrees}
+use Rattle.box_name.specs.NamingSteps.{Agrees}
 use Rattle.box_name.specs.Procedures.{AreNamed, NamesProcs, NamesProgram}
 use Rattle.box_name.proofs.Putting.{earlier}
 

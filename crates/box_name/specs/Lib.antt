@@ -4,7 +4,7 @@ pub mod Finding
 pub mod Fitting
 pub mod Naming
 pub mod Procedures
-pub mod Steps
+pub mod NamingSteps
 pub mod Sureness
 pub mod Told
 pub mod Whole

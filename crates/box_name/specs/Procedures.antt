@@ -1,17 +1,22 @@
 -- What the naming of whole procedures notes and makes.
-use Rattle.std.specs.Prelude.{ℕ, suc, ◌≡◌, ◌+◌, List, [], ◌∷◌, ◌++◌, length, map, Option, None}
+use Rattle.std.specs.Prelude.{ℕ, suc, ◌≡◌, ◌<◌, ◌^◌, ◌+◌, List, [], ◌∷◌, ◌++◌, length, map, Option, None}
 use Rattle.scheme_base.specs.declared.pos.Pos.{Pos}
+use Rattle.core_form.specs.declared.program.Program.{Program}
+use Rattle.core_form.specs.declared.program.VarRef.{VarRef}
+use Rattle.core_form.specs.Trees.{Trees}
+use Rattle.named_form.specs.declared.program.Named.{Named}
 use Rattle.named_form.specs.declared.program.Proc.{Proc}
 use Rattle.named_form.specs.declared.program.Step.{Step}
 use Rattle.named_form.specs.Code.{Code, Ends, option_list}
-use Rattle.named_form.specs.Valid.{numbers_from}
-use Rattle.named_form.specs.Written.{procedure}
+use Rattle.named_form.specs.Valid.{Counted, numbers_from}
+use Rattle.named_form.specs.Written.{form, procedure}
 use Rattle.box_name.specs.declared.namer.Namer.{Namer}
 use Rattle.box_name.specs.Told.{Expr, Exprs}
+use Rattle.box_name.specs.Cores.{form_of}
 use Rattle.box_name.specs.Counts.{all_places, all_after, after_boxes, box_places, after_lambda, lambda_places}
 use Rattle.box_name.specs.Naming.{Setting, make_boxes, rest_var, written}
-use Rattle.box_name.specs.Whole.{all_written, form_code, is_boxed, lambdas_places, named, setting}
-use Rattle.box_name.specs.Steps.{linked, Agrees, Emits, Notes}
+use Rattle.box_name.specs.Whole.{after_lambdas, all_written, form_code, is_boxed, lambdas_places, named, setting}
+use Rattle.box_name.specs.NamingSteps.{linked, Agrees, Emits, Notes}
 
 -- the next variables were taken
 pub record TakesVars (a b : Namer) (many : ℕ) (vs : List ℕ) : Type 0 where
@@ -42,6 +47,11 @@ NamesProcs a b before behind all ls =
     → (b.vars.entries ≡ a.vars.entries ++ lambdas_places (is_boxed all) n ls)
     × (Agrees b (setting all 0) → map procedure behind ≡ map procedure before ++ all_written all n 1 ls)
 
+-- lambda expressions that bind the variables from n on, as the procedures from 1 on, have numbers of 32 bits
+pub record NumbersFit (all : Exprs) (n : ℕ) (ls : List (ℕ × Expr)) : Type 0 where
+  pub procs : suc (length ls) < 2 ^ 32
+  pub vars : after_lambdas (is_boxed all) n ls < 2 ^ 32
+
 -- the forms of a program were named, where nothing was before
 abbrev pub NamesForms : (a b : Namer) → (before behind : List Step) → (all : Exprs) → Type 0
 NamesForms a b before behind all =
@@ -60,3 +70,8 @@ NamesProgram a b all proc =
 -- these are the procedures of a program, procedure 0 first
 abbrev pub AreNamed : List Proc → (all : Exprs) → Type 0
 AreNamed procs all = map procedure procs ≡ (named all []).procs
+
+-- the named form of a core with these forms was made, and its procedures and variables have numbers of 32 bits
+pub record MakesForm (core : Program VarRef) (forms : Trees VarRef) (made : Named) : Type 0 where
+  pub is : form made ≡ form_of core forms
+  pub counted : Counted (form made).procs

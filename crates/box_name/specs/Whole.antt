@@ -130,6 +130,11 @@ abbrev pub lambdas_places : (boxed : ℕ → Bool) → (n : ℕ) → List (ℕ �
 lambdas_places boxed n [] = []
 lambdas_places boxed n (l ∷ ls) = lambda_places boxed n l.1 ++ lambdas_places boxed (after_lambda boxed n l.1) ls
 
+-- the variable after those of lambda expressions
+abbrev pub after_lambdas : (boxed : ℕ → Bool) → (n : ℕ) → List (ℕ × Expr) → ℕ
+after_lambdas boxed n [] = n
+after_lambdas boxed n (l ∷ ls) = after_lambdas boxed (after_lambda boxed n l.1) ls
+
 -- where all local variables of a program are found
 abbrev pub whole_places : Exprs → List (ℕ × ℕ)
 whole_places forms =

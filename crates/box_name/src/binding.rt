@@ -5,7 +5,7 @@ ghost use Rattle.indexmap.specs.IndexMap.{get};
 ghost use Rattle.named_form.specs.Written.{act_of};
 ghost use Rattle.box_name.specs.Fitting.{Fits};
 ghost use Rattle.box_name.specs.Naming.{Setting};
-ghost use Rattle.box_name.specs.Steps.{Binds, Notes, NotesVars, PutsFix, PutsOne, Settles, Takes, TakesProc, TakesProcs};
+ghost use Rattle.box_name.specs.NamingSteps.{Binds, Notes, NotesVars, PutsFix, PutsOne, Settles, Takes, TakesProc, TakesProcs};
 ghost use Rattle.box_name.specs.Told.{told, all_told, number, numbers};
 
 use crate::facts::Stand;

@@ -4,7 +4,7 @@ ghost use Rattle.core_form.specs.Trees.{Tree, Trees, Call, Lambda, Stands, Stand
 ghost use Rattle.scheme_base.specs.declared.pos.Pos.{Pos as Position};
 ghost use Rattle.box_name.specs.Fitting.{Fits};
 ghost use Rattle.box_name.specs.Naming.{Setting};
-ghost use Rattle.box_name.specs.Steps.{Does, DoesOperand, DoesOperands, BindsParam, BindsParams};
+ghost use Rattle.box_name.specs.NamingSteps.{Does, DoesOperand, DoesOperands, BindsParam, BindsParams};
 ghost use Rattle.box_name.specs.Told.{Direct as DirectCall, told, told_operands, number, numbers};
 
 use crate::direct::{Direct, direct_lambda, is_hole};

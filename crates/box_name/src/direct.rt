@@ -2,7 +2,7 @@ ghost use Rattle.std.specs.Prelude.{◌≡◌, false, IfSome, IfNone};
 ghost use Rattle.core_form.specs.declared.program.VarRef.{VarRef as Ref};
 ghost use Rattle.core_form.specs.Trees.{Tree, Stands};
 ghost use Rattle.core_form.specs.Valid.{is_hole as has_no_value};
-ghost use Rattle.box_name.specs.Steps.{IsDirect};
+ghost use Rattle.box_name.specs.NamingSteps.{IsDirect};
 ghost use Rattle.box_name.specs.Told.{is_direct};
 
 use core_form::{Renamed, VarRef, What};

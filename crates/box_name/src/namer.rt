@@ -3,7 +3,7 @@ ghost use Rattle.core_form.specs.declared.program.VarRef.{VarRef as Name};
 ghost use Rattle.core_form.specs.Trees.{Tree, If, Stands};
 ghost use Rattle.named_form.specs.Written.{act_of};
 ghost use Rattle.box_name.specs.Naming.{operation as deed};
-ghost use Rattle.box_name.specs.Steps.{Does, DoesArm, DoesLast, DoesNode, DoesNodes, IsLambdaAt, last_of as last_value};
+ghost use Rattle.box_name.specs.NamingSteps.{Does, DoesArm, DoesLast, DoesNode, DoesNodes, IsLambdaAt, last_of as last_value};
 ghost use Rattle.box_name.specs.Told.{Define as DefineAs, assignment, reference, told, top_name};
 
 use crate::facts::Stand;

@@ -6,7 +6,7 @@ ghost use Rattle.box_name.specs.Counts.{all_params};
 ghost use Rattle.box_name.specs.Fitting.{Fits, KnowsAll};
 ghost use Rattle.box_name.specs.Finding.{ArePlaced};
 ghost use Rattle.box_name.specs.Naming.{Setting, rest_var};
-ghost use Rattle.box_name.specs.Procedures.{NamesForms, NamesProc, NamesProcs, NamesProgram, SettlesAll, TakesRest, TakesVars};
+ghost use Rattle.box_name.specs.Procedures.{NamesForms, NamesProc, NamesProcs, NamesProgram, NumbersFit, SettlesAll, TakesRest, TakesVars};
 ghost use Rattle.box_name.specs.Told.{Expr, Exprs, told, all_told, number, numbers, option_number};
 
 use crate::facts::{Facts, Stand};
@@ -72,7 +72,8 @@ impl Namer {
         deep: u32,
         procs: &mut Procs,
     ) -> Result<(), AllocError>
-        ensures { OnOk result ((all : Exprs) (ls : List (ℕ × Expr)) → KnowsAll core.now facts.now all → ArePlaced core.now facts.now.survey.procs.items ls → NamesProcs self.old self.new procs.old procs.new all ls) }
+        ensures are_named { OnOk result ((all : Exprs) (ls : List (ℕ × Expr)) → KnowsAll core.now facts.now all → ArePlaced core.now facts.now.survey.procs.items ls → NamesProcs self.old self.new procs.old procs.new all ls) }
+        ensures fit { OnOk result ((all : Exprs) (ls : List (ℕ × Expr)) → KnowsAll core.now facts.now all → ArePlaced core.now facts.now.survey.procs.items ls → NumbersFit all self.old.next_var ls) }
     {
         let mut after: u32 = 1;
         let mut left = facts.survey.procs.as_slice();
@@ -86,6 +87,8 @@ impl Namer {
             procs.push(self.name_procedure(Stand { core, facts, form }, origin.expr, deep)?)?;
             left = others;
         }
+        // A number that is read has 32 bits.
+        let _next = self.next_var;
         Ok(())
     }
 

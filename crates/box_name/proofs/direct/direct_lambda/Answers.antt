@@ -1,7 +1,7 @@
 use Rattle.std.proofs.Common.{◌≡◌, None, refl, sym, ap, rules, ◌∙◌}
 use Rattle.core_form.specs.declared.program.What.TheVariants as form
 use Rattle.alpha_core.proofs.Shapes.{node_of, lambda_tree}
-use Rattle.box_name.specs.Steps.{IsDirect}
+use Rattle.box_name.specs.NamingSteps.{IsDirect}
 use Rattle.box_name.proofs.direct.direct_lambda.Goals as goal
 
 pub returns-in-Lambda-default-None-default-clause-some : goal.returns-in-Lambda-default-None-default-clause-some

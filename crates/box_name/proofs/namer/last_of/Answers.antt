@@ -1,6 +1,6 @@
 use Rattle.std.proofs.Common.{sym, ap, ◌∙◌}
 use Rattle.std.proofs.lemmas.List.{nil_from_length}
-use Rattle.box_name.specs.Steps.{last_of}
+use Rattle.box_name.specs.NamingSteps.{last_of}
 use Rattle.box_name.proofs.Acts.{last_pushed}
 use Rattle.box_name.proofs.namer.last_of.Goals as goal
 

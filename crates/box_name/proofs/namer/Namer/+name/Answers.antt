@@ -10,7 +10,7 @@ use Rattle.named_form.specs.declared.program.Block.{Block, Block-F, out-Block, o
 use Rattle.named_form.specs.declared.program.Act.{Act as Deed}
 use Rattle.named_form.specs.declared.program.Step.{Step}
 use Rattle.named_form.specs.Code as act
-use Rattle.box_name.specs.Steps.{Binds, BindsParams, Does, MakesArm, PutsOne, with_proc}
+use Rattle.box_name.specs.NamingSteps.{Binds, BindsParams, Does, MakesArm, PutsOne, with_proc}
 use Rattle.box_name.proofs.Acts.{binds_as, call_is, const_is, if_is}
 use Rattle.box_name.specs.Told.{told, all_told, told_operands, numbers}
 use Rattle.box_name.proofs.Emitting.{emit_const, emit_prim, emit_seq, emit_fix, emit_if, emit_call, emit_direct, make_arm}

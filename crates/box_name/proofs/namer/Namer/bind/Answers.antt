@@ -1,7 +1,7 @@
 use Rattle.std.proofs.Common.{sym, subst, ap, ◌∙◌, ◌∷◌, []}
 use Rattle.std.proofs.lemmas.Result.{IfOk-weaker}
 use Rattle.named_form.specs.Written.{act_of}
-use Rattle.box_name.specs.Steps.{PutsStep}
+use Rattle.box_name.specs.NamingSteps.{PutsStep}
 use Rattle.box_name.proofs.namer.Namer.bind.Goals as goal
 
 pub returns : goal.returns

@@ -1,7 +1,7 @@
 use Rattle.std.proofs.Common.{None, Some, rules, subst, sym, refl, ◌∙◌}
 use Rattle.std.proofs.lemmas.Result.{on_ok_weaker}
 use Rattle.named_form.specs.Code.{Copy, MakeHole}
-use Rattle.box_name.specs.Steps.{BindsParam}
+use Rattle.box_name.specs.NamingSteps.{BindsParam}
 use Rattle.box_name.specs.Told.{number}
 use Rattle.box_name.proofs.Acts.{binds_as, copy_is, make_hole_is}
 use Rattle.box_name.proofs.Numbering.{bind_value, bind_hole}

@@ -1,7 +1,7 @@
 use Rattle.std.proofs.Common.{rules, subst, sym, refl, ◌∙◌}
 use Rattle.std.proofs.lemmas.Result.{IfOk-weaker}
 use Rattle.named_form.specs.Code as act
-use Rattle.box_name.specs.Steps.{EmitsExpr}
+use Rattle.box_name.specs.NamingSteps.{EmitsExpr}
 use Rattle.box_name.specs.Told.{reference}
 use Rattle.box_name.proofs.Acts.{binds_as, unbox_is, top_get_is}
 use Rattle.box_name.proofs.Emitting.{emit_boxed, emit_plain, emit_top}

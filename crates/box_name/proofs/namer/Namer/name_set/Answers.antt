@@ -1,7 +1,7 @@
 use Rattle.std.proofs.Common.{rules, subst, sym, refl, ◌∙◌}
 use Rattle.std.proofs.lemmas.Result.{IfOk-weaker}
 use Rattle.named_form.specs.Code as act
-use Rattle.box_name.specs.Steps.{EmitsExpr}
+use Rattle.box_name.specs.NamingSteps.{EmitsExpr}
 use Rattle.box_name.specs.Told.{assignment}
 use Rattle.box_name.proofs.Acts.{binds_as, set_box_is, top_set_is}
 use Rattle.box_name.proofs.Emitting.{emit_set_local, emit_set_top}

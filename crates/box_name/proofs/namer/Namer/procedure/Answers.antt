@@ -1,6 +1,6 @@
 use Rattle.std.proofs.Common.{◌≡◌, ◌+◌, suc, refl, ap, arith}
 use Rattle.box_name.specs.Counts.{procs_in}
-use Rattle.box_name.specs.Steps.{with_proc}
+use Rattle.box_name.specs.NamingSteps.{with_proc}
 use Rattle.box_name.specs.Told.{told}
 use Rattle.box_name.proofs.namer.Namer.procedure.Goals as goal
 

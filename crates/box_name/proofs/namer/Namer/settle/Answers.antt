@@ -1,7 +1,7 @@
 use Rattle.std.proofs.Common.{◌≡◌, true, false, rules, subst, sym, refl, ◌∙◌, ◌∷◌, []}
 use Rattle.std.proofs.lemmas.Result.{on_ok_weaker}
 use Rattle.named_form.specs.Code.{MakeBox}
-use Rattle.box_name.specs.Steps.{Settles}
+use Rattle.box_name.specs.NamingSteps.{Settles}
 use Rattle.box_name.specs.Told.{number}
 use Rattle.box_name.proofs.Acts.{binds_as, make_box_is}
 use Rattle.box_name.proofs.Numbering.{settle_boxed, settle_plain}

@@ -1,6 +1,6 @@
 use Rattle.std.proofs.Common.{◌≡◌, subst}
 use Rattle.std.proofs.lemmas.Result.{on_ok_weaker}
-use Rattle.box_name.specs.Steps.{Settles}
+use Rattle.box_name.specs.NamingSteps.{Settles}
 use Rattle.box_name.specs.Told.{number}
 use Rattle.box_name.proofs.namer.Namer.settle_last.Goals as goal
 
