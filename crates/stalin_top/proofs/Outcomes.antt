@@ -11,7 +11,7 @@ use Rattle.elf_write.specs.declared.error.ElfErr.{ElfErr}
 use Rattle.elf_write.specs.declared.error.ElfErr.TheVariants as breaks
 use Rattle.elf_write.specs.Reading.{HoldsImage, Breaks}
 use Rattle.elf_write.proofs.Answers.{one_answer}
-use Rattle.elf_write.proofs.Back.{reads_back}
+use Rattle.elf_write.proofs.WrittenIsRead.{reads_back}
 use Rattle.image_build.specs.Emitted.{Emitted, Refuses}
 use Rattle.image_build.specs.declared.error.BuildErr.{BuildErr}
 use Rattle.image_build.specs.declared.error.BuildErr.TheVariants as build
