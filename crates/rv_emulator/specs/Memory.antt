@@ -31,17 +31,6 @@ byte_in bytes (Some at) = slice_index bytes at
 abbrev pub memory_of : List Region → List ℕ → ℕ → ℕ
 memory_of regions bytes a = byte_in bytes (place_from 0 regions a)
 
--- what memory holds
-pub record Contents : Type 0 where
-  -- how bytes may be used, which never changes
-  pub regions : List Region
-  -- the bytes of the regions, one's after another's
-  pub bytes : List ℕ
-
--- the byte at each address, of what memory holds
-abbrev pub cells : Contents → ℕ → ℕ
-cells memory = memory_of memory.regions memory.bytes
-
 abbrev pub has_flag : (flags flag : ℕ) → Bool
 has_flag flags flag = nat_eq (flags / flag % 2) 1
 

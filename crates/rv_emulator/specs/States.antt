@@ -13,7 +13,7 @@ use Rattle.rv_emulator.specs.declared.next.Went.{Went}
 use Rattle.rv_emulator.specs.declared.system.Ask.{Ask as Wish}
 use Rattle.rv_emulator.specs.declared.system.Ask.TheVariants as wishes
 use Rattle.rv_emulator.specs.declared.decoded.Decoded.{Decoded}
-use Rattle.rv_emulator.specs.Memory.{Contents, allowed, cells}
+use Rattle.rv_emulator.specs.Memory.{allowed, memory_of}
 use Rattle.rv_emulator.specs.Packed.{IsReady, fetched_of}
 use Rattle.rv_form.specs.Image.{Writing}
 use Rattle.rv_form.specs.Machine.{fetch}
@@ -24,8 +24,9 @@ regs_of registers r = slice_index registers.words r
 abbrev pub world_with : List Region → Env → World
 world_with regions env = record { allows = allowed regions; env = env }
 
-abbrev pub state_of : (pc : ℕ) → Registers → Contents → Calls → State
-state_of pc registers memory calls = record { pc = pc; regs = regs_of registers; memory = cells memory; calls = calls }
+abbrev pub state_of : (pc : ℕ) → Registers → List Region → (bytes : List ℕ) → Calls → State
+state_of pc registers regions bytes calls =
+    record { pc = pc; regs = regs_of registers; memory = memory_of regions bytes; calls = calls }
 
 -- What an instruction at a place comes to. A system call has changed nothing yet, and comes to what it asks.
 abbrev pub done : World → (pc : ℕ) → Next → State → Run
@@ -72,30 +73,29 @@ ended_as (ends.Exited status) calls = Ended status calls
 ended_as (ends.Trapped kind pc) calls = Trapped kind pc calls
 
 -- the run after a step: it goes on at a place, or has stopped
-abbrev pub turned : Result ℕ End → Registers → Contents → Calls → Run
-turned (Ok pc) registers memory calls = Running (state_of pc registers memory calls)
-turned (Err end) registers memory calls = ended_as end calls
+abbrev pub turned : Result ℕ End → Registers → List Region → (bytes : List ℕ) → Calls → Run
+turned (Ok pc) registers regions bytes calls = Running (state_of pc registers regions bytes calls)
+turned (Err end) registers regions bytes calls = ended_as end calls
 
--- how bytes may be used is as it was, and so are those that may not be written
-pub record Kept (old new : Contents) : Type 0 where
-  pub regions : new.regions ≡ old.regions
-  pub fixed : (a : ℕ) → allowed old.regions Writing a ≡ false → cells new a ≡ cells old a
+-- bytes that may not be written are as they were
+abbrev pub Kept : List Region → (old new : List ℕ) → Type 0
+Kept regions old new = (a : ℕ) → allowed regions Writing a ≡ false → memory_of regions new a ≡ memory_of regions old a
 
 -- a word of code that stands at a place
-pub record StandsAt (memory : Contents) (pc : ℕ) (word : Decoded) : Type 0 where
-  pub stands : fetch (world_with memory.regions no_env) (cells memory) pc ≡ fetched_of word
+pub record StandsAt (regions : List Region) (bytes : List ℕ) (pc : ℕ) (word : Decoded) : Type 0 where
+  pub stands : fetch (world_with regions no_env) (memory_of regions bytes) pc ≡ fetched_of word
   pub ready : IsReady word
   pub low : pc < 2 ^ 47
 
 -- and is never written over
-pub record StaysAt (memory : Contents) (pc : ℕ) (word : Decoded) : Type 0 where
-  pub here : StandsAt memory pc word
-  pub fixed : (i : ℕ) → i < 4 → allowed memory.regions Writing (pc + i) ≡ false
+pub record StaysAt (regions : List Region) (bytes : List ℕ) (pc : ℕ) (word : Decoded) : Type 0 where
+  pub here : StandsAt regions bytes pc word
+  pub fixed : (i : ℕ) → i < 4 → allowed regions Writing (pc + i) ≡ false
 
 -- words that were read once, from `base` on, stay there
-abbrev pub IsCached : Contents → (base : ℕ) → List Decoded → Type 0
-IsCached memory base words =
-    (k : ℕ) (word : Decoded) → k < length words → slice_index_or words k word ≡ word → StaysAt memory (base + 4 * k) word
+abbrev pub IsCached : List Region → (bytes : List ℕ) → (base : ℕ) → List Decoded → Type 0
+IsCached regions bytes base words =
+    (k : ℕ) (word : Decoded) → k < length words → slice_index_or words k word ≡ word → StaysAt regions bytes (base + 4 * k) word
 
 -- how many steps are left of a run that has come so far, and where it is
 abbrev pub left_in : Result Went End → ℕ

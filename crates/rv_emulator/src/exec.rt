@@ -4,12 +4,12 @@ ghost use Rattle.scheme_base.specs.declared.env.Env.{Env};
 ghost use Rattle.scheme_base.specs.Outside.{Calls};
 ghost use Rattle.rv_form.specs.Numbers.{add as sum_of, extended as extended_of, word as word_of};
 ghost use Rattle.rv_form.specs.Machine.{act_at, as_it_is, with_reg};
-ghost use Rattle.rv_emulator.specs.Memory.{all_flagged, bytes_of, cells, half_of, loaded_by};
+ghost use Rattle.rv_emulator.specs.Memory.{Laid, all_flagged, bytes_of, half_of, loaded_by, memory_of};
 ghost use Rattle.rv_emulator.specs.Packed.{IsReady, IsSource, fetched_of, number_of};
 ghost use Rattle.rv_emulator.specs.States.{Kept, after_load, after_store, done, reads, regs_of, state_of, with_loaded, with_stored, world_with};
 
 use crate::decoded::{Decoded, Op};
-use crate::memory::Memory;
+use crate::memory::{load, store};
 use crate::next::Next;
 use crate::operation::{
     add, div, divu, divuw, divw, even, extended, flag, high_mixed, high_signed, high_unsigned,
@@ -17,16 +17,18 @@ use crate::operation::{
     srlw, sub, upper, word,
 };
 use crate::region::Width::{Byte, Double, Half, Word};
-use crate::region::{READS, Width};
+use crate::region::{READS, Region, Width};
 use crate::registers::Registers;
 
 /// Does an instruction that stands at `pc`, all but a system call; `x` are the registers.
 #[inline]
-pub fn exec(code: Decoded, pc: u64, x: &mut Registers, memory: &mut Memory) -> Next
+pub fn exec(code: Decoded, pc: u64, x: &mut Registers, regions: &[Region], bytes: &mut [u8]) -> Next
     requires ready { IsReady code }
     requires place { pc < 2 ^ 47 }
-    ensures done { (env : Env) (calls : Calls) → act_at (world_with memory.old.regions env) (fetched_of code) (state_of pc x.old memory.old calls) ≡ done (world_with memory.old.regions env) pc result (state_of pc x.new memory.new calls) }
-    ensures kept { Kept memory.old memory.new }
+    requires laid { Laid regions.now bytes.old }
+    ensures done { (env : Env) (calls : Calls) → act_at (world_with regions.now env) (fetched_of code) (state_of pc x.old regions.now bytes.old calls) ≡ done (world_with regions.now env) pc result (state_of pc x.new regions.now bytes.new calls) }
+    ensures laid { Laid regions.now bytes.new }
+    ensures kept { Kept regions.now bytes.old bytes.new }
 {
     let Decoded {
         op,
@@ -46,17 +48,17 @@ pub fn exec(code: Decoded, pc: u64, x: &mut Registers, memory: &mut Memory) -> N
         Op::Bge => branch(!less(x.read(rs1), x.read(rs2)), imm, pc),
         Op::Bltu => branch(x.read(rs1) < x.read(rs2), imm, pc),
         Op::Bgeu => branch(x.read(rs1) >= x.read(rs2), imm, pc),
-        Op::Lb => load_signed(Byte, rd, rs1, imm, pc, x, memory),
-        Op::Lh => load_signed(Half, rd, rs1, imm, pc, x, memory),
-        Op::Lw => load_signed(Word, rd, rs1, imm, pc, x, memory),
-        Op::Ld => load_plain(Double, rd, rs1, imm, pc, x, memory),
-        Op::Lbu => load_plain(Byte, rd, rs1, imm, pc, x, memory),
-        Op::Lhu => load_plain(Half, rd, rs1, imm, pc, x, memory),
-        Op::Lwu => load_plain(Word, rd, rs1, imm, pc, x, memory),
-        Op::Sb => store_at(Byte, rs1, rs2, imm, pc, x, memory),
-        Op::Sh => store_at(Half, rs1, rs2, imm, pc, x, memory),
-        Op::Sw => store_at(Word, rs1, rs2, imm, pc, x, memory),
-        Op::Sd => store_at(Double, rs1, rs2, imm, pc, x, memory),
+        Op::Lb => load_signed(Byte, rd, rs1, imm, pc, x, regions, bytes),
+        Op::Lh => load_signed(Half, rd, rs1, imm, pc, x, regions, bytes),
+        Op::Lw => load_signed(Word, rd, rs1, imm, pc, x, regions, bytes),
+        Op::Ld => load_plain(Double, rd, rs1, imm, pc, x, regions, bytes),
+        Op::Lbu => load_plain(Byte, rd, rs1, imm, pc, x, regions, bytes),
+        Op::Lhu => load_plain(Half, rd, rs1, imm, pc, x, regions, bytes),
+        Op::Lwu => load_plain(Word, rd, rs1, imm, pc, x, regions, bytes),
+        Op::Sb => store_at(Byte, rs1, rs2, imm, pc, x, regions, bytes),
+        Op::Sh => store_at(Half, rs1, rs2, imm, pc, x, regions, bytes),
+        Op::Sw => store_at(Word, rs1, rs2, imm, pc, x, regions, bytes),
+        Op::Sd => store_at(Double, rs1, rs2, imm, pc, x, regions, bytes),
         Op::Addi => put(add(x.read(rs1), word(imm)), rd, pc, x),
         Op::Slti => put(flag(less(x.read(rs1), word(imm))), rd, pc, x),
         Op::Sltiu => put(flag(x.read(rs1) < word(imm)), rd, pc, x),
@@ -160,15 +162,17 @@ fn load_signed(
     imm: i32,
     pc: u64,
     x: &mut Registers,
-    memory: &Memory,
+    regions: &[Region],
+    bytes: &[u8],
 ) -> Next
     requires place { pc < 2 ^ 47 }
     requires registers { (rd < 32) × IsSource rs1 }
-    ensures next { result ≡ after_load pc (loaded_by memory.now.regions memory.now.bytes 4 (bytes_of width) (sum_of (reads x.old (number_of rs1)) (word_of imm))) }
+    requires laid { Laid regions.now bytes.now }
+    ensures next { result ≡ after_load pc (loaded_by regions.now bytes.now 4 (bytes_of width) (sum_of (reads x.old (number_of rs1)) (word_of imm))) }
     ensures registers { regs_of x.new ≡ with_loaded (extended_of (half_of width)) rd
-        (loaded_by memory.now.regions memory.now.bytes 4 (bytes_of width) (sum_of (reads x.old (number_of rs1)) (word_of imm))) (regs_of x.old) }
+        (loaded_by regions.now bytes.now 4 (bytes_of width) (sum_of (reads x.old (number_of rs1)) (word_of imm))) (regs_of x.old) }
 {
-    match memory.load(READS, width, address(rs1, imm, x)) {
+    match load(regions, bytes, READS, width, address(rs1, imm, x)) {
         Some(n) => put(extended(width.half(), n), rd, pc, x),
         None => Next::Trap(3),
     }
@@ -183,15 +187,17 @@ fn load_plain(
     imm: i32,
     pc: u64,
     x: &mut Registers,
-    memory: &Memory,
+    regions: &[Region],
+    bytes: &[u8],
 ) -> Next
     requires place { pc < 2 ^ 47 }
     requires registers { (rd < 32) × IsSource rs1 }
-    ensures next { result ≡ after_load pc (loaded_by memory.now.regions memory.now.bytes 4 (bytes_of width) (sum_of (reads x.old (number_of rs1)) (word_of imm))) }
+    requires laid { Laid regions.now bytes.now }
+    ensures next { result ≡ after_load pc (loaded_by regions.now bytes.now 4 (bytes_of width) (sum_of (reads x.old (number_of rs1)) (word_of imm))) }
     ensures registers { regs_of x.new ≡ with_loaded as_it_is rd
-        (loaded_by memory.now.regions memory.now.bytes 4 (bytes_of width) (sum_of (reads x.old (number_of rs1)) (word_of imm))) (regs_of x.old) }
+        (loaded_by regions.now bytes.now 4 (bytes_of width) (sum_of (reads x.old (number_of rs1)) (word_of imm))) (regs_of x.old) }
 {
-    match memory.load(READS, width, address(rs1, imm, x)) {
+    match load(regions, bytes, READS, width, address(rs1, imm, x)) {
         Some(n) => put(n, rd, pc, x),
         None => Next::Trap(3),
     }
@@ -206,16 +212,19 @@ fn store_at(
     imm: i32,
     pc: u64,
     x: &Registers,
-    memory: &mut Memory,
+    regions: &[Region],
+    bytes: &mut [u8],
 ) -> Next
     requires place { pc < 2 ^ 47 }
     requires registers { IsSource rs1 × IsSource rs2 }
-    ensures next { result ≡ after_store pc (all_flagged memory.old.regions 2 (bytes_of width) (sum_of (reads x.now (number_of rs1)) (word_of imm))) }
-    ensures stored { cells memory.new ≡ with_stored (all_flagged memory.old.regions 2 (bytes_of width) (sum_of (reads x.now (number_of rs1)) (word_of imm)))
-        (bytes_of width) (sum_of (reads x.now (number_of rs1)) (word_of imm)) (reads x.now (number_of rs2)) (cells memory.old) }
-    ensures kept { Kept memory.old memory.new }
+    requires laid { Laid regions.now bytes.old }
+    ensures next { result ≡ after_store pc (all_flagged regions.now 2 (bytes_of width) (sum_of (reads x.now (number_of rs1)) (word_of imm))) }
+    ensures stored { memory_of regions.now bytes.new ≡ with_stored (all_flagged regions.now 2 (bytes_of width) (sum_of (reads x.now (number_of rs1)) (word_of imm)))
+        (bytes_of width) (sum_of (reads x.now (number_of rs1)) (word_of imm)) (reads x.now (number_of rs2)) (memory_of regions.now bytes.old) }
+    ensures laid { Laid regions.now bytes.new }
+    ensures kept { Kept regions.now bytes.old bytes.new }
 {
-    if memory.store(width, address(rs1, imm, x), x.read(rs2)) {
+    if store(regions, bytes, width, address(rs1, imm, x), x.read(rs2)) {
         Next::Go(pc + 4)
     } else {
         Next::Trap(4)

@@ -6,8 +6,7 @@ ghost use Rattle.rv_emulator.specs.Held.{StartsAs, answer_in, run_of, settled, w
 ghost use Rattle.rv_emulator.specs.Loading.{IsLoadable};
 ghost use Rattle.rv_emulator.specs.Plays.{Plays};
 
-use crate::loading::{Code, lay, read_code};
-use crate::memory::Memory;
+use crate::loading::{Code, Memory, lay, read_code};
 use crate::next::{End, RunEnd, answer};
 use crate::registers::Registers;
 use crate::trap::go_on;
@@ -31,19 +30,21 @@ pub struct Machine {
 
 impl Model for Machine {
     ghost use Rattle.rv_emulator.specs.Held.{Held};
+    ghost use Rattle.rv_emulator.specs.Memory.{Laid};
     ghost use Rattle.rv_emulator.specs.States.{IsCached};
 
     ghost Value = { Held };
 
     ghost view = { λ machine. record {
-      regions = machine.memory.regions;
-      bytes = machine.memory.bytes;
+      regions = machine.memory.regions.items;
+      bytes = machine.memory.bytes.items;
       registers = machine.registers.words;
       pc = machine.pc;
       end = machine.end;
     } };
 
-    ghost invariant = { λ machine. IsCached machine.memory machine.code.base machine.code.words.items };
+    ghost invariant = { λ machine. Laid machine.memory.regions.items machine.memory.bytes.items
+        × IsCached machine.memory.regions.items machine.memory.bytes.items machine.code.base machine.code.words.items };
 }
 
 /// A machine at the start of an image.
@@ -52,7 +53,7 @@ pub fn load(alloc: Global, image: &Image) -> Result<Machine, AllocError>
     ensures { IfOk result (StartsAs image.now) }
 {
     let memory = lay(alloc, image.segments.as_slice())?;
-    let code = read_code(alloc, &memory, image.entry)?;
+    let code = read_code(alloc, &memory.regions, &memory.bytes, image.entry)?;
     Ok(Machine {
         pc: image.entry,
         registers: Registers::new(),
@@ -85,7 +86,8 @@ impl Machine {
             &self.code.words,
             self.pc,
             &mut self.registers,
-            &mut self.memory,
+            &self.memory.regions,
+            &mut self.memory.bytes,
             console,
         );
         self.pc = gone.pc;

@@ -2,16 +2,17 @@
 ghost use Rattle.std.specs.Prelude.{◌≡◌, ◌-◌, ◌<◌, IfOk, Some};
 ghost use Rattle.scheme_base.specs.Runs.{after};
 ghost use Rattle.rv_form.specs.Machine.{Running, fetch as fetched_in, machine_in, step as step_in};
-ghost use Rattle.rv_emulator.specs.Memory.{cells};
+ghost use Rattle.rv_emulator.specs.Memory.{Laid, memory_of};
 ghost use Rattle.rv_emulator.specs.Packed.{IsWordAt, seen_as};
 ghost use Rattle.rv_emulator.specs.Plays.{Plays};
 ghost use Rattle.rv_emulator.specs.States.{IsCached, Kept, StandsAt, left_in, no_env, place_in, state_of, turned, world_with};
 
 use crate::decoded::Decoded;
 use crate::exec::exec;
-use crate::memory::Memory;
+use crate::memory::fetch;
 use crate::next::{End, Next, Went};
 use crate::operation::sub;
+use crate::region::Region;
 use crate::registers::Registers;
 use crate::system::system;
 use stalin_outside::Console;
@@ -23,25 +24,29 @@ pub fn do_steps<C: Console>(
     words: &[Decoded],
     pc: u64,
     registers: &mut Registers,
-    memory: &mut Memory,
+    regions: &[Region],
+    bytes: &mut [u8],
     console: &mut C,
 ) -> Result<u64, End>
-    requires { IsCached memory.old base words.now }
+    requires laid { Laid regions.now bytes.old }
+    requires cached { IsCached regions.now bytes.old base words.now }
     ensures plays { Plays
-        (λ env calls. after (machine_in (world_with memory.old.regions env)) count
-        (Running (state_of pc registers.old memory.old calls)))
-        (turned result registers.new memory.new)
+        (λ env calls. after (machine_in (world_with regions.now env)) count
+        (Running (state_of pc registers.old regions.now bytes.old calls)))
+        (turned result registers.new regions.now bytes.new)
         (C.told console.old) (C.told console.new) }
-    ensures cached { IsCached memory.new base words.now }
-    ensures regions { memory.new.regions ≡ memory.old.regions }
+    ensures laid { Laid regions.now bytes.new }
+    ensures cached { IsCached regions.now bytes.new base words.now }
 {
     let mut pc = pc;
     let mut left = count;
     while left > 0 {
-        match word_at(base, words, pc, memory) {
+        match word_at(base, words, pc, regions, bytes) {
             None => return Err(End::Trapped { kind: 2, pc }),
             Some(first) => {
-                match run_from(first, left, base, words, pc, registers, memory, console) {
+                match run_from(
+                    first, left, base, words, pc, registers, regions, bytes, console,
+                ) {
                     Ok(went) => {
                         pc = went.pc;
                         left = went.left;
@@ -55,14 +60,21 @@ pub fn do_steps<C: Console>(
 }
 
 /// The word of code at a place: one of those that were read once, from `base` on, or read now.
-fn word_at(base: u64, words: &[Decoded], pc: u64, memory: &Memory) -> Option<Decoded>
-    requires { IsCached memory.now base words.now }
-    ensures value { fetched_in (world_with memory.now.regions no_env) (cells memory.now) pc ≡ seen_as result }
-    ensures stands { (word : Decoded) → result ≡ Some word → StandsAt memory.now pc word }
+fn word_at(
+    base: u64,
+    words: &[Decoded],
+    pc: u64,
+    regions: &[Region],
+    bytes: &[u8],
+) -> Option<Decoded>
+    requires laid { Laid regions.now bytes.now }
+    requires cached { IsCached regions.now bytes.now base words.now }
+    ensures value { fetched_in (world_with regions.now no_env) (memory_of regions.now bytes.now) pc ≡ seen_as result }
+    ensures stands { (word : Decoded) → result ≡ Some word → StandsAt regions.now bytes.now pc word }
 {
     match cached_at(base, words, pc) {
         Some(word) => Some(word),
-        None => memory.fetch(pc),
+        None => fetch(regions, bytes, pc),
     }
 }
 
@@ -90,25 +102,27 @@ fn run_from<C: Console>(
     words: &[Decoded],
     pc: u64,
     registers: &mut Registers,
-    memory: &mut Memory,
+    regions: &[Region],
+    bytes: &mut [u8],
     console: &mut C,
 ) -> Result<Went, End>
     requires some { 0 < count }
-    requires first { StandsAt memory.old pc first }
-    requires cached { IsCached memory.old base words.now }
+    requires first { StandsAt regions.now bytes.old pc first }
+    requires laid { Laid regions.now bytes.old }
+    requires cached { IsCached regions.now bytes.old base words.now }
     ensures plays { Plays
-        (λ env calls. after (machine_in (world_with memory.old.regions env)) (count - left_in result)
-        (Running (state_of pc registers.old memory.old calls)))
-        (turned (place_in result) registers.new memory.new)
+        (λ env calls. after (machine_in (world_with regions.now env)) (count - left_in result)
+        (Running (state_of pc registers.old regions.now bytes.old calls)))
+        (turned (place_in result) registers.new regions.now bytes.new)
         (C.told console.old) (C.told console.new) }
     ensures less { IfOk result (λ went. went.left < count) }
-    ensures cached { IsCached memory.new base words.now }
-    ensures regions { memory.new.regions ≡ memory.old.regions }
+    ensures laid { Laid regions.now bytes.new }
+    ensures cached { IsCached regions.now bytes.new base words.now }
 {
     let mut pc = pc;
     let mut word = first;
     for done in 0..count {
-        match step(word, pc, registers, memory, console) {
+        match step(word, pc, registers, regions, bytes, console) {
             Ok(to) => pc = to,
             Err(end) => return Err(end),
         }
@@ -131,20 +145,23 @@ fn step<C: Console>(
     word: Decoded,
     pc: u64,
     registers: &mut Registers,
-    memory: &mut Memory,
+    regions: &[Region],
+    bytes: &mut [u8],
     console: &mut C,
 ) -> Result<u64, End>
-    requires { StandsAt memory.old pc word }
+    requires laid { Laid regions.now bytes.old }
+    requires stands { StandsAt regions.now bytes.old pc word }
     ensures plays { Plays
-        (λ env calls. step_in (world_with memory.old.regions env)
-        (Running (state_of pc registers.old memory.old calls)))
-        (turned result registers.new memory.new)
+        (λ env calls. step_in (world_with regions.now env)
+        (Running (state_of pc registers.old regions.now bytes.old calls)))
+        (turned result registers.new regions.now bytes.new)
         (C.told console.old) (C.told console.new) }
-    ensures kept { Kept memory.old memory.new }
+    ensures laid { Laid regions.now bytes.new }
+    ensures kept { Kept regions.now bytes.old bytes.new }
 {
-    match exec(word, pc, registers, memory) {
+    match exec(word, pc, registers, regions, bytes) {
         Next::Go(to) => Ok(to),
         Next::Trap(kind) => Err(End::Trapped { kind, pc }),
-        Next::Call => system(pc, registers, memory, console),
+        Next::Call => system(pc, registers, regions, bytes, console),
     }
 }

@@ -1,6 +1,6 @@
 use Rattle.std.proofs.Common.{ap, ◌∙◌, ◌<◌, ◌+◌, ◌*◌, Some, arith}
-use Rattle.rv_emulator.proofs.BytesOfNumbers.{digit_more, bytes_fit}
-use Rattle.rv_emulator.proofs.OnePlaceEach.{first_place, low_place, whole_fits, loaded_more}
+use Rattle.rv_emulator.proofs.Digits.{digit_more, bytes_fit}
+use Rattle.rv_emulator.proofs.Places.{first_place, low_place, whole_fits, loaded_more}
 use Rattle.rv_emulator.proofs.memory.+load_apart.Goals as goal
 
 pub overflow_add-a : goal.overflow_add-a

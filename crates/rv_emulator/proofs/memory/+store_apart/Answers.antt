@@ -1,8 +1,8 @@
 use Rattle.std.proofs.Common.{ap, ◌∙◌, ◌/◌, ◌+◌, ◌-◌, arith}
 use Rattle.rv_form.specs.Machine.{store}
 use Rattle.rv_emulator.specs.Memory.{memory_of}
-use Rattle.rv_emulator.proofs.OnePlaceEach.{first_place, low_place, whole_fits}
-use Rattle.rv_emulator.proofs.StoredBytes.{one_store, store_then}
+use Rattle.rv_emulator.proofs.Places.{first_place, low_place, whole_fits}
+use Rattle.rv_emulator.proofs.Stores.{one_store, store_then}
 use Rattle.rv_emulator.proofs.memory.+store_apart.Goals as goal
 
 pub bounds-bytes-at : goal.bounds-bytes-at

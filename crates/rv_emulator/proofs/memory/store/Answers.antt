@@ -2,9 +2,9 @@ use Rattle.std.proofs.Common.{subst, sym, ◌≡◌, ◌∙◌, true, ℕ, arith
 use Rattle.std.specs.Prelude.{slice_index}
 use Rattle.rv_form.specs.Machine.{store}
 use Rattle.rv_emulator.specs.Memory.{IsWhole, bytes_of, has_flag, all_flagged}
-use Rattle.rv_emulator.proofs.BytesOfNumbers.{some_bytes}
-use Rattle.rv_emulator.proofs.OnePlaceEach.{whole_fits, whole_flagged}
-use Rattle.rv_emulator.proofs.StoredBytes.{whole_store, store_keeps}
+use Rattle.rv_emulator.proofs.Digits.{some_bytes}
+use Rattle.rv_emulator.proofs.Places.{whole_fits, whole_flagged}
+use Rattle.rv_emulator.proofs.Stores.{whole_store, store_keeps}
 use Rattle.rv_emulator.proofs.memory.store.Goals as goal
 
 pub put_at-requires : goal.put_at-requires
@@ -28,14 +28,14 @@ returns-else-not-is_set-clause-stored c =
     (subst (λ n. IsWhole c.args.regions.now c.args.a n c.in-Whole.at c.in-Whole.flags) c.count.ensures c.in-Whole.ensures)
     (subst (λ n. (k : ℕ) → slice_index c.put_at.new.bytes k ≡ store n (λ k. slice_index c.args.bytes.now k) c.in-Whole.at c.args.value k) c.count-in-Whole.ensures c.put_at.ensures.written)
 
-pub returns-else-not-is_set-clause-fixed : goal.returns-else-not-is_set-clause-fixed
-returns-else-not-is_set-clause-fixed c =
+pub returns-else-not-is_set-clause-kept : goal.returns-else-not-is_set-clause-kept
+returns-else-not-is_set-clause-kept c =
     store_keeps c.args.regions.now c.args.bytes.now c.put_at.new.bytes (bytes_of c.args.width) c.args.a c.args.value
     (sym (returns-else-not-is_set-clause-answer c))
     (returns-else-not-is_set-clause-stored c)
 
-pub returns-else-not-may-clause-fixed : goal.returns-else-not-may-clause-fixed
-returns-else-not-may-clause-fixed c =
+pub returns-else-not-may-clause-kept : goal.returns-else-not-may-clause-kept
+returns-else-not-may-clause-kept c =
     let usable : all_flagged c.args.regions.now 2 c.count-in-Apart-2.result c.args.a ≡ true = cc in
     store_keeps c.args.regions.now c.args.bytes.now c.store_apart.new.bytes c.count-in-Apart-2.result c.args.a c.args.value
     usable c.store_apart.ensures.stored

@@ -3,11 +3,11 @@ use Rattle.std.proofs.Common.{◌≡◌, ℕ, suc, ◌++◌, ◌+◌, ◌-◌, �
 use Rattle.std.proofs.Math.ListN.{get_or-append, length-append}
 use Rattle.std.proofs.Math.Seq.{get_or-append_seam}
 use Rattle.std.specs.Prelude.{nat_eq, nat_lt, ◌&&◌, slice_index_or}
-use Rattle.rv_form.specs.Image.{Executing, Writing}
-use Rattle.rv_form.specs.Machine.{found, fetch, fetched, load, all_allowed}
+use Rattle.rv_form.specs.Image.{Executing}
+use Rattle.rv_form.specs.Machine.{found, fetched, load, all_allowed}
 use Rattle.rv_form.specs.Instruction.{instruction_of}
 use Rattle.rv_emulator.specs.declared.region.Region.{Region}
-use Rattle.rv_emulator.specs.Memory.{Contents, allowed, cells, flags_in, has_flag, loaded_by, AreLow}
+use Rattle.rv_emulator.specs.Memory.{flags_in, has_flag, loaded_by, memory_of, AreLow}
 use Rattle.rv_emulator.specs.declared.decoded.Decoded.{Decoded}
 use Rattle.rv_emulator.specs.Packed.{IsWordAt}
 use Rattle.rv_emulator.specs.States.{world_with, no_env, Kept, StandsAt, StaysAt, IsCached}
@@ -38,41 +38,40 @@ four_bytes m m' a same =
     rw (b0, b1, b2, b3) refl
 
 -- where the bytes that may not be written are as they were, what stands stays
-pub stays_kept : (old new : Contents) (pc : ℕ) (word : Decoded) → Kept old new → StaysAt old pc word → StaysAt new pc word
-stays_kept old new pc word kept one =
-    let same : load 4 (cells new) pc ≡ load 4 (cells old) pc =
-    four_bytes (cells old) (cells new) pc (λ i within. kept.fixed (pc + i) (one.fixed i within))
+pub stays_kept : (regions : List Region) (old new : List ℕ) (pc : ℕ) (word : Decoded) → Kept regions old new
+    → StaysAt regions old pc word → StaysAt regions new pc word
+stays_kept regions old new pc word kept one =
+    let same : load 4 (memory_of regions new) pc ≡ load 4 (memory_of regions old) pc =
+    four_bytes (memory_of regions old) (memory_of regions new) pc (λ i within. kept (pc + i) (one.fixed i within))
     in
     record {
       here =
           record {
-            stands =
-                ap (λ regions. fetch (world_with regions no_env) (cells new) pc) kept.regions
-                ∙ (by_load (nat_eq (pc % 4) 0 && all_allowed (world_with old.regions no_env) Executing 4 pc) same ∙ one.here.stands);
+            stands = by_load (nat_eq (pc % 4) 0 && all_allowed (world_with regions no_env) Executing 4 pc) same ∙ one.here.stands;
             ready = one.here.ready;
             low = one.here.low;
           };
-      fixed = λ i within. ap (λ regions. allowed regions Writing (pc + i)) kept.regions ∙ one.fixed i within;
+      fixed = one.fixed;
     }
   where
-    by_load : (placed : Bool) → load 4 (cells new) pc ≡ load 4 (cells old) pc
-        → fetched placed (cells new) pc ≡ fetched placed (cells old) pc
+    by_load : (placed : Bool) → load 4 (memory_of regions new) pc ≡ load 4 (memory_of regions old) pc
+        → fetched placed (memory_of regions new) pc ≡ fetched placed (memory_of regions old) pc
     by_load true same = ap (λ n. found (instruction_of n)) same
     by_load false same = refl
 
-pub cached_kept : (old new : Contents) (base : ℕ) (words : List Decoded) → Kept old new
-    → IsCached old base words → IsCached new base words
-cached_kept old new base words kept cached =
-    λ k word within is. stays_kept old new (base + 4 * k) word kept (cached k word within is)
+pub cached_kept : (regions : List Region) (old new : List ℕ) (base : ℕ) (words : List Decoded) → Kept regions old new
+    → IsCached regions old base words → IsCached regions new base words
+cached_kept regions old new base words kept cached =
+    λ k word within is. stays_kept regions old new (base + 4 * k) word kept (cached k word within is)
 
-pub word_stands : (memory : Contents) (base : ℕ) (words : List Decoded) (pc : ℕ) (word : Decoded)
-    → IsCached memory base words → base < 2 ^ 64 → pc < 2 ^ 64 → IsWordAt base words pc word → StandsAt memory pc word
-word_stands memory base words pc word cached small_base small_pc one =
+pub word_stands : (regions : List Region) (bytes : List ℕ) (base : ℕ) (words : List Decoded) (pc : ℕ) (word : Decoded)
+    → IsCached regions bytes base words → base < 2 ^ 64 → pc < 2 ^ 64 → IsWordAt base words pc word → StandsAt regions bytes pc word
+word_stands regions bytes base words pc word cached small_base small_pc one =
     let here = (cached one.at word one.within one.is).here in
     let low : base + 4 * one.at < 2 ^ 47 = here.low in
     let offset : (pc + (2 ^ 64 - base)) % 2 ^ 64 ≡ 4 * one.at = one.offset in
     let e : base + 4 * one.at ≡ pc = omega arith in
-    subst (λ p. StandsAt memory p word) e here
+    subst (λ p. StandsAt regions bytes p word) e here
 
 data Order (m n : ℕ) : Type 0 where
   less : (low : m < n) → Order m n
@@ -88,20 +87,20 @@ order m n = go (nat_lt m n) refl (nat_lt n m) refl
     go false p false q = same (grind arith)
 
 -- one more word is read
-pub cached_more : (memory : Contents) (base : ℕ) (words : List Decoded) (last : Decoded)
-    → IsCached memory base words → StaysAt memory (base + 4 * length words) last
-    → IsCached memory base (words ++ last ∷ [])
-cached_more memory base words last cached one k word within is = go (order k (length words))
+pub cached_more : (regions : List Region) (bytes : List ℕ) (base : ℕ) (words : List Decoded) (last : Decoded)
+    → IsCached regions bytes base words → StaysAt regions bytes (base + 4 * length words) last
+    → IsCached regions bytes base (words ++ last ∷ [])
+cached_more regions bytes base words last cached one k word within is = go (order k (length words))
   where
-    go : Order k (length words) → StaysAt memory (base + 4 * k) word
+    go : Order k (length words) → StaysAt regions bytes (base + 4 * k) word
     go (less low) = cached k word low (sym (get_or-append words (last ∷ []) word k low) ∙ is)
     go (same e) =
         let there : last ≡ word =
         sym (get_or-append_seam words last [] word)
         ∙ subst (λ n. slice_index_or (words ++ last ∷ []) n word ≡ word) e is
         in
-        subst (λ w. StaysAt memory (base + 4 * k) w) there
-        (subst (λ n. StaysAt memory (base + 4 * n) last) (sym e) one)
+        subst (λ w. StaysAt regions bytes (base + 4 * k) w) there
+        (subst (λ n. StaysAt regions bytes (base + 4 * n) last) (sym e) one)
     go (more high) =
         let size : length (words ++ last ∷ []) ≡ length words + 1 = length-append words (last ∷ []) in
         absurd (omega arith)

@@ -7,8 +7,7 @@ use Rattle.scheme_base.proofs.Simulations.{after-add}
 use Rattle.rv_form.specs.Machine.{World, Run, machine_in, step}
 use Rattle.rv_emulator.specs.declared.next.End.{End}
 use Rattle.rv_emulator.specs.declared.next.End.TheVariants as ends
-use Rattle.rv_emulator.specs.declared.region.Region.{Region}
-use Rattle.rv_emulator.specs.States.{ended_as, world_with}
+use Rattle.rv_emulator.specs.States.{ended_as}
 use Rattle.stalin_outside.specs.Console.{Told}
 use Rattle.stalin_outside.specs.Environment.{AnswersAs, with_call, calls_with, Gives}
 use Rattle.stalin_outside.specs.Transcript.{Call, Passes}
@@ -63,13 +62,6 @@ pub plays_same : {from from' : Env → Calls → Run} {to : Calls → Run} {befo
     → ((env : Env) (calls : Calls) → from' env calls ≡ from env calls) → Plays from to before now → Plays from' to before now
 plays_same same one =
     record { made = one.made; passes = one.passes; runs = λ env calls gives. same env calls ∙ one.runs env calls gives }
-
--- regions that are the same are the same world
-pub plays_world : {to : Calls → Run} {before now : Told} {old new : List Region} (run : World → Calls → Run) → new ≡ old
-    → Plays (λ env calls. run (world_with new env) calls) to before now
-    → Plays (λ env calls. run (world_with old env) calls) to before now
-plays_world run same one =
-    plays_same (λ env calls. ap (λ regions. run (world_with regions env) calls) (sym same)) one
 
 -- one step more
 pub after_one_more : (w : World) (n : ℕ) (run : Run) → after (machine_in w) (n + 1) run ≡ step w (after (machine_in w) n run)

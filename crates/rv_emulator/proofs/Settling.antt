@@ -1,5 +1,5 @@
 -- Where a machine has stopped.
-use Rattle.std.proofs.Common.{◌≡◌, ℕ, Bool, true, false, Option, Some, None, refl, sym, ap, subst, ◌∙◌}
+use Rattle.std.proofs.Common.{◌≡◌, ℕ, Bool, true, false, List, Option, Some, None, refl, sym, ap, subst, ◌∙◌}
 use Rattle.scheme_base.specs.Outside.{Calls}
 use Rattle.scheme_base.specs.Runs.{after}
 use Rattle.rv_form.specs.Machine.{World, State, Run, Running, Ended, Trapped, Fetched, Found, NoWord, NoPlace, Ask, Answers, Reads, Writes, Sends, Leaves, Unknown, loaded, stored, asked, system, act, act_at, fetch, machine_in, step}
@@ -11,10 +11,11 @@ use Rattle.rv_emulator.specs.Held.{Held, run_in, run_of, settled, settled_by, wo
 use Rattle.stalin_outside.specs.Console.{Told}
 use Rattle.rv_emulator.specs.Plays.{Plays}
 use Rattle.std.specs.Prelude.{slice_index}
-use Rattle.rv_emulator.specs.Memory.{Contents, memory_of}
+use Rattle.rv_emulator.specs.Memory.{memory_of}
+use Rattle.rv_emulator.specs.declared.region.Region.{Region}
 use Rattle.rv_emulator.specs.declared.registers.Registers.{Registers}
 use Rattle.rv_emulator.specs.States.{ended_as, state_of, trap_of, world_with}
-use Rattle.rv_emulator.proofs.RunsInTurn.{plays_alone, ended_stays}
+use Rattle.rv_emulator.proofs.Playing.{plays_alone, ended_stays}
 
 pub ended_settled : (w : World) (end : End) (calls : Calls) → settled w (ended_as end calls) ≡ ended_as end calls
 ended_settled w (ends.Exited status) calls = refl
@@ -105,24 +106,29 @@ held_plays held held' steps t t' =
     (run_of held')
     t t'
 
-abbrev part_plays : (steps pc gone : ℕ) (registers registers' : Registers) (memory new : Contents) (end : Option End) (t t' : Told) → Type 0
-part_plays steps pc gone registers registers' memory new end t t' =
+abbrev part_plays : (steps pc gone : ℕ) (registers registers' : Registers) (regions : List Region) (bytes new : List ℕ)
+    (end : Option End) (t t' : Told) → Type 0
+part_plays steps pc gone registers registers' regions bytes new end t t' =
     Plays
     (λ env calls.
-    settled (world_with memory.regions env)
-    (after (machine_in (world_with memory.regions env)) steps (Running (state_of pc registers memory calls))))
-    (λ calls. run_in end (state_of gone registers' new calls))
+    settled (world_with regions env)
+    (after (machine_in (world_with regions env)) steps (Running (state_of pc registers regions bytes calls))))
+    (λ calls. run_in end (state_of gone registers' regions new calls))
     t t'
 
-abbrev holding : (pc : ℕ) → Registers → Contents → Option End → Held
-holding pc registers memory end =
-    record { regions = memory.regions; bytes = memory.bytes; registers = registers.words; pc = pc; end = end }
+abbrev holding : (pc : ℕ) → Registers → List Region → List ℕ → Option End → Held
+holding pc registers regions bytes end =
+    record { regions = regions; bytes = bytes; registers = registers.words; pc = pc; end = end }
 
 -- what is said of the parts of a machine, said of the whole
-pub whole_plays : (held : Held) (steps pc gone : ℕ) (registers registers' : Registers) (memory new : Contents)
-    (at end : Option End) (t t' : Told) → at ≡ None → holding pc registers memory at ≡ held
-    → part_plays steps pc gone registers registers' memory new end t t'
-    → held_plays held (holding gone registers' new end) steps t t'
-whole_plays held steps pc gone registers registers' memory new at end t t' none is plays =
-    subst (λ h. held_plays h (holding gone registers' new end) steps t t')
-    (ap (holding pc registers memory) (sym none) ∙ is) plays
+pub whole_plays : (held : Held) (steps pc gone : ℕ) (registers registers' : Registers) (regions regions' : List Region)
+    (bytes bytes' new new' : List ℕ) (at end : Option End) (t t' : Told) → at ≡ None → holding pc registers regions bytes at ≡ held
+    → regions' ≡ regions → bytes' ≡ bytes → new ≡ new'
+    → part_plays steps pc gone registers registers' regions' bytes' new end t t'
+    → held_plays held (holding gone registers' regions new' end) steps t t'
+whole_plays held steps pc gone registers registers' regions regions' bytes bytes' new new' at end t t' none is same_regions same_bytes same_new plays =
+    subst (λ h. held_plays h (holding gone registers' regions new' end) steps t t')
+    (ap (holding pc registers regions bytes) (sym none) ∙ is)
+    (subst (λ n. part_plays steps pc gone registers registers' regions bytes n end t t') same_new
+    (subst (λ b. part_plays steps pc gone registers registers' regions b new end t t') same_bytes
+    (subst (λ r. part_plays steps pc gone registers registers' r bytes' new end t t') same_regions plays)))
