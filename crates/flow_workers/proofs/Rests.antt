@@ -88,3 +88,12 @@ round_left c base settled rounds table first pass left start leaves are_settled 
       above = between.above;
       given = round_given c base left.rows.words settled pass between kept are_settled all;
     }
+
+-- a round of a table is one from the base that it was opened with
+pub round_from :
+    (c : Constraints) (base : List ℕ) (rounds : ℕ) (table : Opened) (first : Held) (left : Answer)
+    → IsStart c base rounds table first → IsRound c table.base table.rounds left → IsRound c base rounds left
+round_from c base rounds table first left start round =
+    let Based : List ℕ → Type 0 = λ b. IsRound c b table.rounds left in
+    let Counted : ℕ → Type 0 = λ n. IsRound c base n left in
+    subst Counted start.same_rounds (subst Based start.same_base round)

@@ -20,8 +20,9 @@ pub(crate) struct Bits {
 impl Bits {
     /// So many bits, none of which is set.
     pub(crate) fn new(alloc: Global, bits: usize) -> Result<Bits, AllocError> {
-        let mut words = Vec::new(alloc);
-        for _ in 0..bits.div_ceil(64) {
+        let count = bits.div_ceil(64);
+        let mut words = Vec::with_capacity(alloc, count)?;
+        for _ in 0..count {
             words.push(AtomicU64::new(0))?;
         }
         Ok(Bits { words })
@@ -110,7 +111,7 @@ struct Givers {
 }
 
 fn zeros(alloc: Global, count: usize) -> Result<Vec<AtomicU32>, AllocError> {
-    let mut all = Vec::new(alloc);
+    let mut all = Vec::with_capacity(alloc, count)?;
     for _ in 0..count {
         all.push(AtomicU32::new(0))?;
     }

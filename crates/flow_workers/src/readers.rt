@@ -190,39 +190,33 @@ fn part_of(
     Ok(part)
 }
 
-/// The parts of the rules from one to before another, found by so many threads.
+/// The parts of the rules from one on, found by so many threads, each of which lets the next one go before it begins:
+/// a part for each, in no order that matters.
 fn parts_of<R: Threads + Sync>(
     rt: &R,
     alloc: Global,
     c: &Constraints,
     tested: &Bits,
     first: usize,
-    end: usize,
     threads: u32,
 ) -> Result<Vec<Part>, AllocError> {
-    let mut all = Vec::new(alloc);
+    let left = c.rules.len().saturating_sub(first);
+    let end = first.saturating_add(left / threads.max(1) as usize);
     if threads <= 1 {
+        let mut all = Vec::new(alloc);
         all.push(part_of(alloc, c, tested, first, end)?)?;
         return Ok(all);
     }
-    let middle = first.midpoint(end);
-    let half = threads / 2;
-    let others = threads - half;
-    let (one, two) = join(
+    let others = threads - 1;
+    let (one, parts) = join(
         rt,
-        || -> Result<Vec<Part>, AllocError>
-            requires { IsSync R.row × (0 < half) }
-        { parts_of(rt, alloc, c, tested, first, middle, half) },
+        || -> Result<Part, AllocError> { part_of(alloc, c, tested, first, end) },
         || -> Result<Vec<Part>, AllocError>
             requires { IsSync R.row × (0 < others) }
-        { parts_of(rt, alloc, c, tested, middle, end, others) },
+        { parts_of(rt, alloc, c, tested, end, others) },
     );
-    for part in one? {
-        all.push(part)?;
-    }
-    for part in two? {
-        all.push(part)?;
-    }
+    let mut all = parts?;
+    all.push(one?)?;
     Ok(all)
 }
 
@@ -242,16 +236,15 @@ fn parts_and_lists<R: Threads + Sync>(
     Result<Vec<Part>, AllocError>,
     Result<(Found, Waiting), AllocError>,
 ) {
-    let rules = c.rules.len();
     if threads <= 1 {
-        let parts = parts_of(rt, alloc, c, tested, 0, rules, 1);
+        let parts = parts_of(rt, alloc, c, tested, 0, 1);
         return (parts, empty_lists(alloc, c));
     }
     join(
         rt,
         || -> Result<Vec<Part>, AllocError>
             requires { IsSync R.row }
-        { parts_of(rt, alloc, c, tested, 0, rules, threads) },
+        { parts_of(rt, alloc, c, tested, 0, threads) },
         || -> Result<(Found, Waiting), AllocError> { empty_lists(alloc, c) },
     )
 }

@@ -1,10 +1,9 @@
 //! One round: workers draw blocks until none is left, and what they have done is taken in.
-ghost use Rattle.std.specs.Prelude.{◌≡◌, ◌≤◌, ◌+◌, ◌^◌, ◌<◌, ◌⊎◌, ℕ, length, IfOk, IfSome};
-ghost use Rattle.std.specs.Option.{option_copied};
+ghost use Rattle.std.specs.Prelude.{◌≡◌, ◌≤◌, ◌+◌, ◌<◌, ◌⊎◌, ℕ, length};
 ghost use Rattle.std.specs.Thread.{IsSync};
 ghost use Rattle.bit_rows.specs.Members.{IsMember};
 ghost use Rattle.flow_form.specs.Shape.{blocks_of, done_size_of};
-ghost use Rattle.type_table.specs.Tables.{IsOf, base_of, rounds_of};
+ghost use Rattle.type_table.specs.Tables.{IsOf, IsStart};
 ghost use Rattle.flow_workers.specs.Rounds.{AreSettled, IsRound};
 
 use crate::block::{do_block, do_noting};
@@ -14,30 +13,28 @@ use crate::readers::Readers;
 use bit_rows::contains;
 use flow_form::Constraints;
 use stalin_outside::Gate;
-use std::alloc::{AllocError, AllocGlobal, Global};
+use std::alloc::{AllocGlobal, Global};
 use std::thread::{Threads, join};
 use type_table::{Closed, Pass, TypeTable};
 
-/// Runs one round from the rows that the last one left, or from no pairs, with so many workers. Blocks
-/// that are settled are skipped.
+/// Runs one round in a table that has just been opened, with so many workers. Blocks that are settled are skipped.
 pub(crate) fn round<R: AllocGlobal + Threads + Sync, G: Gate>(
     rt: &R,
     c: &Constraints,
-    last: Option<&Closed>,
+    opened: (TypeTable, Pass),
     settled: &[u64],
     readers: &Readers,
     workers: u32,
     gate: &G,
-) -> Result<Closed, AllocError>
-    requires of { IfSome (option_copied last) (λ closed. closed.constraints ≡ c.now) }
-    requires few { IfSome (option_copied last) (λ closed. closed.rounds + 1 < 2 ^ 64) }
+) -> Closed
+    requires start { IsStart c.now opened.0.base opened.0.rounds opened.0 opened.1 }
     requires size { length settled.now ≡ done_size_of c.now }
-    requires settled { AreSettled c.now (base_of c.now (option_copied last)) settled.now }
+    requires settled { AreSettled c.now opened.0.base settled.now }
     requires some { 0 < workers }
     requires most { workers ≤ 32 }
-    ensures { IfOk result (IsRound c.now (base_of c.now (option_copied last.entry)) (rounds_of (option_copied last.entry))) }
+    ensures { IsRound c.now opened.0.base opened.0.rounds result }
 {
-    let (table, pass) = TypeTable::open(rt.alloc(), c, last)?;
+    let (table, pass) = opened;
     let mut pass = run(
         rt,
         rt.alloc(),
@@ -51,11 +48,11 @@ pub(crate) fn round<R: AllocGlobal + Threads + Sync, G: Gate>(
         gate,
     );
     do_rest(c, &table, &mut pass, settled, gate);
-    Ok(table.close(pass))
+    table.close(pass)
 }
 
-/// Lets workers draw blocks side by side: they are numbered from `first`. Where there is no memory for
-/// a further pass, one of them goes on alone.
+/// Lets workers draw blocks side by side: they are numbered from `first`, and each lets the next one go before it
+/// begins. Where there is no memory for a further pass, one of them goes on alone.
 fn run<R: Threads + Sync, G: Gate>(
     rt: &R,
     alloc: Global,
@@ -83,20 +80,19 @@ fn run<R: Threads + Sync, G: Gate>(
         draw(alloc, c, table, &mut pass, settled, readers, first, gate);
         return pass;
     };
-    let half = workers / 2;
-    let others = workers - half;
+    let others = workers - 1;
     let (mut one, two) = join(
         rt,
         || -> Pass
-            requires { IsSync R.row × IsSync G.row × (table.now.constraints ≡ c.now) × IsOf pass table.now × (length settled.now ≡ done_size_of c.now) × (0 < half) × (first + half ≤ 32) }
+            requires { IsSync G.row × (table.now.constraints ≡ c.now) × IsOf pass table.now × (length settled.now ≡ done_size_of c.now) }
             ensures { IsOf result table.entry.now }
         {
-            run(
-                rt, alloc, c, table, pass, settled, readers, first, half, gate,
-            )
+            let mut own = pass;
+            draw(alloc, c, table, &mut own, settled, readers, first, gate);
+            own
         },
         || -> Pass
-            requires { IsSync R.row × IsSync G.row × (table.now.constraints ≡ c.now) × IsOf second table.now × (length settled.now ≡ done_size_of c.now) × (0 < others) × (first + half + others ≤ 32) }
+            requires { IsSync R.row × IsSync G.row × (table.now.constraints ≡ c.now) × IsOf second table.now × (length settled.now ≡ done_size_of c.now) × (0 < others) × (first + 1 + others ≤ 32) }
             ensures { IsOf result table.entry.now }
         {
             run(
@@ -107,7 +103,7 @@ fn run<R: Threads + Sync, G: Gate>(
                 second,
                 settled,
                 readers,
-                first + half,
+                first + 1,
                 others,
                 gate,
             )

@@ -2,6 +2,9 @@
 ghost use Rattle.std.specs.Prelude.{◌≡◌, ◌≤◌, ◌<◌, ◌+◌, ℕ, IfOk};
 ghost use Rattle.std.specs.Bool.{MatchBool};
 ghost use Rattle.bit_rows.specs.Members.{IsMember};
+ghost use Rattle.std.specs.Prelude.{None};
+ghost use Rattle.std.specs.Thread.{IsSync};
+ghost use Rattle.type_table.specs.Tables.{IsStart, base_of, rounds_of};
 ghost use Rattle.flow_workers.specs.Rounds.{IsSolved, Reaches};
 
 use crate::readers::Readers;
@@ -11,8 +14,8 @@ use bit_rows::next_member;
 use flow_form::{Constraints, no_pairs};
 use stalin_outside::Gate;
 use std::alloc::{AllocError, AllocGlobal};
-use std::thread::Threads;
-use type_table::Closed;
+use std::thread::{Threads, join};
+use type_table::{Closed, Pass, TypeTable};
 
 /// So many blocks are done as fast again as an index of them is made.
 const FEW_BLOCKS: u32 = 64;
@@ -40,12 +43,38 @@ pub fn solve<R: AllocGlobal + Threads + Sync, G: Gate>(
     requires most { workers ≤ 32 }
     ensures { IfOk result (IsSolved c.now) }
 {
-    let readers = readers_of(rt, c, workers);
-    let mut reached = first_round(rt, c, &readers, workers, gate)?;
+    let (readers, opened) = prepared(rt, c, workers);
+    let mut reached = first_round(rt, c, opened?, &readers, workers, gate)?;
     while some_grew(c, reached.grown.as_slice()) {
         reached = next_round(rt, c, &reached, &readers, workers, gate)?;
     }
     Ok(reached.closed)
+}
+
+/// The index that workers follow, and the table of the first round: side by side where there are several workers.
+fn prepared<R: AllocGlobal + Threads + Sync>(
+    rt: &R,
+    c: &Constraints,
+    workers: u32,
+) -> (Readers, Result<(TypeTable, Pass), AllocError>)
+    ensures { IfOk result.1 (λ opened. IsStart c.now (base_of c.now None) (rounds_of None) opened.0 opened.1) }
+{
+    if workers <= 1 {
+        return (
+            readers_of(rt, c, workers),
+            TypeTable::open(rt.alloc(), c, None),
+        );
+    }
+    let alloc = rt.alloc();
+    join(
+        rt,
+        || -> Readers
+            requires { IsSync R.row }
+        { readers_of(rt, c, workers) },
+        || -> Result<(TypeTable, Pass), AllocError>
+            ensures { IfOk result (λ opened. IsStart c.entry.now (base_of c.entry.now None) (rounds_of None) opened.0 opened.1) }
+        { TypeTable::open(alloc, c, None) },
+    )
 }
 
 /// The index that workers follow: an empty one where there are few blocks, or no memory for it.
@@ -70,10 +99,12 @@ fn some_grew(c: &Constraints, grown: &[u64]) -> bool
 fn first_round<R: AllocGlobal + Threads + Sync, G: Gate>(
     rt: &R,
     c: &Constraints,
+    opened: (TypeTable, Pass),
     readers: &Readers,
     workers: u32,
     gate: &G,
 ) -> Result<Reached, AllocError>
+    requires start { IsStart c.now (base_of c.now None) (rounds_of None) opened.0 opened.1 }
     requires some { 1 ≤ workers }
     requires most { workers ≤ 32 }
     ensures { IfOk result (λ reached. Reaches c.now reached.closed reached.grown.items) }
@@ -81,7 +112,7 @@ fn first_round<R: AllocGlobal + Threads + Sync, G: Gate>(
     let alloc = rt.alloc();
     let base = no_pairs(alloc, c)?;
     let settled = vec![in alloc; 0; c.blocks().div_ceil(64) as usize]?;
-    let closed = round(rt, c, None, settled.as_slice(), readers, workers, gate)?;
+    let closed = round(rt, c, opened, settled.as_slice(), readers, workers, gate);
     let rows = closed.rows();
     let grown = grown_rows(
         rt,
@@ -112,15 +143,8 @@ fn next_round<R: AllocGlobal + Threads + Sync, G: Gate>(
 {
     let alloc = rt.alloc();
     let settled = settled_blocks(rt, alloc, c, last.grown.as_slice(), workers)?;
-    let closed = round(
-        rt,
-        c,
-        Some(&last.closed),
-        settled.as_slice(),
-        readers,
-        workers,
-        gate,
-    )?;
+    let opened = TypeTable::open(alloc, c, Some(&last.closed))?;
+    let closed = round(rt, c, opened, settled.as_slice(), readers, workers, gate);
     let base = last.closed.rows();
     let rows = closed.rows();
     let grown = grown_rows(

@@ -22,7 +22,7 @@ pub(crate) struct Waiting {
 impl Waiting {
     /// A list on which nothing waits.
     pub(crate) fn new(alloc: Global, c: &Constraints) -> Result<Waiting, AllocError> {
-        let mut masks = Vec::new(alloc);
+        let mut masks = Vec::with_capacity(alloc, c.size() as usize)?;
         for _ in 0..c.size() {
             masks.push(AtomicU64::new(0))?;
         }

@@ -1,4 +1,4 @@
-ghost use Rattle.std.specs.Prelude.{◌≡◌, ◌+◌, ◌/◌, ◌%◌, ◌^◌, ◌<◌, true, bit_or, length, IfOk, IfSome};
+ghost use Rattle.std.specs.Prelude.{◌≡◌, ◌+◌, ◌/◌, ◌%◌, ◌^◌, ◌<◌, ◌++◌, ◌∷◌, [], true, bit_or, length, IfOk, IfSome};
 ghost use Rattle.std.specs.Option.{option_copied};
 ghost use Rattle.flow_form.specs.Least.{Given, GivenByBlock, Least, Within};
 ghost use Rattle.flow_form.specs.Race.{MaskWithin, Seen, finishing, growing, joined, loading, with_bits};
@@ -49,17 +49,17 @@ fn share(
     alloc: Global,
     c: &Constraints,
     base: &Numbers,
+    words: &[u64],
 ) -> Result<(SharedTable, Seat<u8, View>), AllocError>
-    requires { length base.now ≡ size_of c.now }
+    requires size { length base.now ≡ size_of c.now }
+    requires words { words.now ≡ base.now ++ 0 ∷ [] }
     ensures { IfOk result (λ shared. IsShared c.now base.now shared.0.shared.table_id shared.0.shared.key.constraints.value shared.0.shared.key.base.value shared.1.table_id shared.1.me) }
 {
-    let mut words = base.as_slice().to_vec(alloc)?;
-    words.push(0)?;
     let key = Key {
         constraints: Snapshot::of(c),
         base: Snapshot::of(base),
     };
-    Table::of_words(alloc, words.as_slice(), &key)
+    Table::of_words(alloc, words, &key)
 }
 
 impl TypeTable {
@@ -97,9 +97,12 @@ impl TypeTable {
         requires within { Within (In c.now base.now) (Least c.now.rules) }
         ensures { IfOk result (λ opened. IsStart c.now base.now rounds opened.0 opened.1) }
     {
-        let room = vec![in alloc; 0; c.size() as usize]?;
+        let mut room = Vec::with_capacity(alloc, c.size() as usize + 1)?;
+        room.extend_from_slice(base.as_slice())?;
+        room.push(0)?;
         let done = vec![in alloc; 0; c.blocks().div_ceil(64) as usize]?;
-        let (table, seat) = share(alloc, c, base)?;
+        let (table, seat) = share(alloc, c, base, room.as_slice())?;
+        room.truncate(c.size() as usize);
         let opened = TypeTable {
             table,
             room,

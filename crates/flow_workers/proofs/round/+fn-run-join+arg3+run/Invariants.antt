@@ -1,10 +1,7 @@
 use Rattle.std.specs.Prelude.{◌+◌, ◌*◌}
-use Rattle.flow_workers.proofs.round.+fn-run-join+arg2+fn-run-join+arg3+run.Given as goal
+use Rattle.flow_workers.proofs.round.+fn-run-join+arg3+run.Given as goal
 
--- the workers of the halves are fewer
-abbrev pub decreases-join+arg2 : goal.decreases-join+arg2
-decreases-join+arg2 g l = 2 * l.half + 1
-
+-- the other workers are fewer
 abbrev pub decreases-join+arg3 : goal.decreases-join+arg3
 decreases-join+arg3 g l = 2 * l.others + 1
 

@@ -1,10 +1,7 @@
 use Rattle.std.specs.Prelude.{◌+◌, ◌*◌}
-use Rattle.flow_workers.proofs.readers.+fn-parts_of-join+arg2+fn-parts_of-join+arg3+parts_of.Given as goal
+use Rattle.flow_workers.proofs.readers.+fn-parts_of-join+arg3+parts_of.Given as goal
 
--- the threads of the halves are fewer
-abbrev pub decreases-join+arg2 : goal.decreases-join+arg2
-decreases-join+arg2 g l = 2 * l.half + 1
-
+-- the other threads are fewer
 abbrev pub decreases-join+arg3 : goal.decreases-join+arg3
 decreases-join+arg3 g l = 2 * l.others + 1
 
