@@ -1,5 +1,4 @@
 pub mod Memory
-pub mod Packed
 pub mod States
 pub mod Plays
 pub mod Loading

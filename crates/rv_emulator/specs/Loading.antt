@@ -4,6 +4,7 @@ use Rattle.std.specs.List.{flat_map}
 use Rattle.rv_form.specs.declared.image.Segment.{Segment}
 use Rattle.rv_form.specs.Image.{byte_at, flags_at}
 use Rattle.rv_emulator.specs.declared.region.Region.{Region}
+use Rattle.rv_emulator.specs.Memory.{Contents}
 
 abbrev pub region_of : Segment → Region
 region_of segment = record { start = segment.vaddr; size = segment.memsz; flags = segment.flags }
@@ -36,11 +37,11 @@ abbrev pub ordered : (backwards : Bool) → List Segment → List Segment
 ordered true segments = reverse segments
 ordered false segments = segments
 
--- regions and bytes are those of segments, in an order in which they are the same memory
-pub record LaysOut (segments : List Segment) (regions : List Region) (bytes : List ℕ) : Type 0 where
+-- memory holds what segments load, in an order in which they are the same memory
+pub record LaysOut (segments : List Segment) (memory : Contents) : Type 0 where
   pub order : List Segment
   pub fit : AreFit order
-  pub of_regions : regions ≡ map region_of order
-  pub of_bytes : bytes ≡ flat_map bytes_in order
+  pub of_regions : memory.regions ≡ map region_of order
+  pub of_bytes : memory.bytes ≡ flat_map bytes_in order
   pub same_bytes : byte_at order ≡ byte_at segments
   pub same_flags : (a : ℕ) → flags_at order a ≡ flags_at segments a

@@ -4,8 +4,6 @@ use Rattle.std.specs.Prelude.{ℕ, zero, suc, ◌≡◌, ◌+◌, ◌-◌, ◌/�
 use Rattle.rv_form.specs.Image.{Access, flag_of}
 use Rattle.rv_form.specs.Machine.{load}
 use Rattle.rv_emulator.specs.declared.region.Region.{Region}
-use Rattle.rv_emulator.specs.declared.region.Width.{Width}
-use Rattle.rv_emulator.specs.declared.region.Width.TheVariants.{Byte, Half, Word, Double}
 use Rattle.rv_emulator.specs.declared.region.Place.{Place}
 use Rattle.rv_emulator.specs.declared.region.Place.TheVariants.{Whole, Apart}
 
@@ -31,6 +29,17 @@ byte_in bytes (Some at) = slice_index bytes at
 abbrev pub memory_of : List Region → List ℕ → ℕ → ℕ
 memory_of regions bytes a = byte_in bytes (place_from 0 regions a)
 
+-- what memory holds
+pub record Contents : Type 0 where
+  -- how bytes may be used, which never changes
+  pub regions : List Region
+  -- the bytes of the regions, one's after another's
+  pub bytes : List ℕ
+
+-- the byte at each address, of what memory holds
+abbrev pub cells : Contents → ℕ → ℕ
+cells memory = memory_of memory.regions memory.bytes
+
 abbrev pub has_flag : (flags flag : ℕ) → Bool
 has_flag flags flag = nat_eq (flags / flag % 2) 1
 
@@ -47,19 +56,6 @@ all_flagged regions flag (suc count) a = has_flag (flags_in regions a) flag && a
 abbrev pub loaded_by : List Region → List ℕ → (flag count a : ℕ) → Option ℕ
 loaded_by regions bytes flag count a =
     if all_flagged regions flag count a then Some (load count (memory_of regions bytes) a) else None
-
-abbrev pub bytes_of : Width → ℕ
-bytes_of Byte = 1
-bytes_of Half = 2
-bytes_of Word = 4
-bytes_of Double = 8
-
--- the number from which on the numbers of so many bytes are negative, as signed ones
-abbrev pub half_of : Width → ℕ
-half_of Byte = 0x80
-half_of Half = 0x8000
-half_of Word = 0x8000_0000
-half_of Double = 0x8000_0000_0000_0000
 
 abbrev pub total_of : List Region → ℕ
 total_of [] = 0
@@ -84,3 +80,10 @@ pub record IsWhole (regions : List Region) (a count at flags : ℕ) : Type 0 whe
 abbrev pub IsPlaceOf : List Region → (a count : ℕ) → Place → Type 0
 IsPlaceOf regions a count (Whole at flags) = IsWhole regions a count at flags
 IsPlaceOf regions a count Apart = count ≡ 1 → (place_from 0 regions a ≡ None) × (flags_in regions a ≡ 0)
+
+-- The first bytes stand at an address, so many of them with seven more behind each, and may be read and written.
+pub record IsFront (regions : List Region) (start room : ℕ) : Type 0 where
+  pub flags : ℕ
+  pub whole : (i : ℕ) → i < room → IsWhole regions (start + i) 8 i flags
+  pub reading : has_flag flags 4 ≡ true
+  pub writing : has_flag flags 2 ≡ true

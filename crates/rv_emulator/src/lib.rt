@@ -1,13 +1,11 @@
 //! The emulator: `load` makes a machine of an image, and `Machine::run` does the machine's steps.
 #![tactic(auto)]
 
-mod decoded;
 mod exec;
 mod loading;
 mod machine;
 mod memory;
 mod next;
-mod operation;
 mod region;
 mod registers;
 mod step;

@@ -1,25 +1,18 @@
 //! How a machine is made of an image.
 ghost use Rattle.std.specs.Prelude.{◌≡◌, ◌∷◌, [], ◌++◌, ◌+◌, ◌*◌, ◌<◌, ◌≤◌, ◌^◌, ℕ, IfOk, IfSome, None, OnOk, map, true, false, length, Some};
 ghost use Rattle.std.specs.List.{flat_map};
-ghost use Rattle.rv_emulator.specs.Memory.{Laid, flags_in, has_flag};
+ghost use Rattle.rv_emulator.specs.Memory.{flags_in, has_flag};
 ghost use Rattle.rv_emulator.specs.Loading.{AreFit, IsLoadable, LaysOut, Rise, bytes_in, ordered, region_of};
 ghost use Rattle.rv_emulator.specs.States.{IsCached, StaysAt};
 
-use crate::decoded::Decoded;
-use crate::memory::{fetch, may};
+use crate::memory::Memory;
 use crate::region::{Region, WRITES};
 use rv_form::Segment;
+use rv_words::Decoded;
 use std::alloc::{AllocError, Global};
 
 /// So many words of code at most are read once; further ones are read each time.
 const MOST: u64 = 0x100_0000;
-
-/// The regions, and the bytes of all of them, one region's after another's.
-#[derive(Drop)]
-pub struct Memory {
-    pub regions: Vec<Region>,
-    pub bytes: Vec<u8>,
-}
 
 /// Words of code that are read once, since nothing can write over them, from `base` on.
 #[derive(Drop)]
@@ -32,7 +25,7 @@ pub struct Code {
 /// order, and data and heap stand last.
 pub fn lay(alloc: Global, segments: &[Segment]) -> Result<Memory, AllocError>
     requires { IsLoadable segments.now }
-    ensures { IfOk result (λ memory. LaysOut segments.now memory.regions.items memory.bytes.items) }
+    ensures { IfOk result (λ memory. LaysOut segments.now memory) }
 {
     lay_in_order(alloc, segments, rise(segments))
 }
@@ -40,8 +33,8 @@ pub fn lay(alloc: Global, segments: &[Segment]) -> Result<Memory, AllocError>
 /// The memory that segments load, from the first or from the last one on.
 fn lay_in_order(alloc: Global, segments: &[Segment], backwards: bool) -> Result<Memory, AllocError>
     requires { IsLoadable (ordered backwards segments.now) }
-    ensures regions { IfOk result (λ memory. memory.regions.items ≡ map region_of (ordered backwards segments.now)) }
-    ensures bytes { IfOk result (λ memory. memory.bytes.items ≡ flat_map bytes_in (ordered backwards segments.now)) }
+    ensures regions { IfOk result (λ memory. memory.regions ≡ map region_of (ordered backwards segments.now)) }
+    ensures bytes { IfOk result (λ memory. memory.bytes ≡ flat_map bytes_in (ordered backwards segments.now)) }
 {
     let mut regions = Vec::new(alloc);
     let mut bytes = Vec::new(alloc);
@@ -55,7 +48,7 @@ fn lay_in_order(alloc: Global, segments: &[Segment], backwards: bool) -> Result<
         push_bytes(&mut bytes, segment)?;
         rest = others;
     }
-    Ok(Memory { regions, bytes })
+    Ok(Memory::new(regions, bytes))
 }
 
 /// The first or the last segment, and the others.
@@ -100,21 +93,14 @@ fn push_bytes(bytes: &mut Vec<u8>, segment: &Segment) -> Result<(), AllocError>
     Ok(())
 }
 
-/// Reads the code of the region that has the entry, up to the first place where none can be or that may be
-/// written.
-pub fn read_code(
-    alloc: Global,
-    regions: &[Region],
-    bytes: &[u8],
-    entry: u64,
-) -> Result<Code, AllocError>
-    requires { Laid regions.now bytes.now }
-    ensures { IfOk result (λ code. IsCached regions.now bytes.now code.base code.words.items) }
+/// Reads the code of the region that has the entry, up to the first place with none or that may be written.
+pub fn read_code(alloc: Global, memory: &Memory, entry: u64) -> Result<Code, AllocError>
+    ensures { IfOk result (λ code. IsCached memory.now code.base code.words.items) }
 {
-    let (base, count) = code_place(regions, entry);
+    let (base, count) = code_place(memory.regions(), entry);
     let mut words = Vec::new(alloc);
     for at in 0..count {
-        match lasting(regions, bytes, base + 4 * at) {
+        match lasting(memory, base + 4 * at) {
             Some(word) => words.push(word)?,
             None => return Ok(Code { base, words }),
         }
@@ -138,31 +124,22 @@ fn code_place(regions: &[Region], entry: u64) -> (u64, u64)
 }
 
 /// The word of code at a place, where it stays there.
-fn lasting(regions: &[Region], bytes: &[u8], pc: u64) -> Option<Decoded>
-    requires { Laid regions.now bytes.now }
-    ensures { (word : Decoded) → result ≡ Some word → StaysAt regions.now bytes.now pc word }
+fn lasting(memory: &Memory, pc: u64) -> Option<Decoded>
+    ensures { (word : Decoded) → result ≡ Some word → StaysAt memory.now pc word }
 {
-    match fetch(regions, bytes, pc) {
-        Some(word) => {
-            if is_fixed(regions, bytes, pc) {
-                Some(word)
-            } else {
-                None
-            }
-        }
-        None => None,
+    match memory.fetch(pc) {
+        Some(word) if is_fixed(memory, pc) => Some(word),
+        _ => None,
     }
 }
 
 /// Whether none of the four bytes of a word may be written.
-fn is_fixed(regions: &[Region], bytes: &[u8], pc: u64) -> bool
-    requires laid { Laid regions.now bytes.now }
-    requires low { pc < 2 ^ 47 }
-    ensures { result ≡ true → (i : ℕ) → i < 4 → has_flag (flags_in regions.now (pc + i)) 2 ≡ false }
+fn is_fixed(memory: &Memory, pc: u64) -> bool
+    requires { pc < 2 ^ 47 }
+    ensures { result ≡ true → (i : ℕ) → i < 4 → has_flag (flags_in memory.now.regions (pc + i)) 2 ≡ false }
 {
-    let _ = bytes;
     for i in 0..4 {
-        if may(regions, WRITES, 1, pc + i) {
+        if memory.may(WRITES, 1, pc + i) {
             return false;
         }
     }

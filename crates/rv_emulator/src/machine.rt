@@ -6,7 +6,8 @@ ghost use Rattle.rv_emulator.specs.Held.{StartsAs, answer_in, run_of, settled, w
 ghost use Rattle.rv_emulator.specs.Loading.{IsLoadable};
 ghost use Rattle.rv_emulator.specs.Plays.{Plays};
 
-use crate::loading::{Code, Memory, lay, read_code};
+use crate::loading::{Code, lay, read_code};
+use crate::memory::Memory;
 use crate::next::{End, RunEnd, answer};
 use crate::registers::Registers;
 use crate::trap::go_on;
@@ -30,21 +31,19 @@ pub struct Machine {
 
 impl Model for Machine {
     ghost use Rattle.rv_emulator.specs.Held.{Held};
-    ghost use Rattle.rv_emulator.specs.Memory.{Laid};
     ghost use Rattle.rv_emulator.specs.States.{IsCached};
 
     ghost Value = { Held };
 
     ghost view = { λ machine. record {
-      regions = machine.memory.regions.items;
-      bytes = machine.memory.bytes.items;
+      regions = machine.memory.regions;
+      bytes = machine.memory.bytes;
       registers = machine.registers.words;
       pc = machine.pc;
       end = machine.end;
     } };
 
-    ghost invariant = { λ machine. Laid machine.memory.regions.items machine.memory.bytes.items
-        × IsCached machine.memory.regions.items machine.memory.bytes.items machine.code.base machine.code.words.items };
+    ghost invariant = { λ machine. IsCached machine.memory machine.code.base machine.code.words.items };
 }
 
 /// A machine at the start of an image.
@@ -53,7 +52,7 @@ pub fn load(alloc: Global, image: &Image) -> Result<Machine, AllocError>
     ensures { IfOk result (StartsAs image.now) }
 {
     let memory = lay(alloc, image.segments.as_slice())?;
-    let code = read_code(alloc, &memory.regions, &memory.bytes, image.entry)?;
+    let code = read_code(alloc, &memory, image.entry)?;
     Ok(Machine {
         pc: image.entry,
         registers: Registers::new(),
@@ -65,7 +64,6 @@ pub fn load(alloc: Global, image: &Image) -> Result<Machine, AllocError>
 
 impl Machine {
     /// Does so many steps, or as many as there are, and tells what they come to.
-    ///
     /// It takes no memory. A run after `Spent` goes on; after another answer each run answers the same.
     pub fn run<C: Console>(&mut self, steps: u64, console: &mut C) -> RunEnd
         ensures plays { Plays
@@ -86,8 +84,7 @@ impl Machine {
             &self.code.words,
             self.pc,
             &mut self.registers,
-            &self.memory.regions,
-            &mut self.memory.bytes,
+            &mut self.memory,
             console,
         );
         self.pc = gone.pc;

@@ -2,15 +2,33 @@
 ghost use Rattle.std.specs.Prelude.{◌≡◌};
 ghost use Rattle.rv_emulator.specs.Held.{answer_in};
 
+/// Where the next instruction stands.
+#[derive(Clone, Copy, Debug, PartialEq, Eq)]
+pub enum Turn {
+    /// Behind the one that was done.
+    On,
+    /// Here.
+    Jump(u64),
+    /// Here where the branch is taken, and else behind it. Both are told, so that no run waits for the test.
+    Branch { taken: bool, to: u64 },
+}
+
 /// What an instruction comes to.
 #[derive(Clone, Copy, Debug, PartialEq, Eq)]
 pub enum Next {
-    /// It is done, and the next one stands here.
-    Go(u64),
+    /// It is done.
+    Go(Turn),
     /// It has no step, for a reason of this number (`rv_form`'s `specs/Machine`).
     Trap(u8),
     /// It is a system call, which is still to be made.
     Call,
+}
+
+/// The place of the next instruction, and its number among the words that were read once, or one past them.
+#[derive(Clone, Copy)]
+pub struct Spot {
+    pub pc: u64,
+    pub at: usize,
 }
 
 /// How far a run has come: the place of its next instruction, and how many steps are left.

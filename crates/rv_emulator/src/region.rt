@@ -1,6 +1,6 @@
 //! The regions of memory: which bytes there are, where they stand, and how they may be used.
 ghost use Rattle.std.specs.Prelude.{◌≡◌, ◌<◌, ◌≤◌, ◌^◌};
-ghost use Rattle.rv_emulator.specs.Memory.{AreLow, IsPlaceOf, bytes_of, half_of, has_flag, total_of};
+ghost use Rattle.rv_emulator.specs.Memory.{AreLow, IsPlaceOf, has_flag, total_of};
 
 /// The flags of a segment: which uses of its bytes it allows.
 pub const EXECUTES: u32 = 1;
@@ -15,42 +15,6 @@ pub struct Region {
     pub start: u64,
     pub size: u64,
     pub flags: u32,
-}
-
-/// How many bytes a load or a store takes.
-#[derive(Clone, Copy, Debug, PartialEq, Eq)]
-pub enum Width {
-    Byte,
-    Half,
-    Word,
-    Double,
-}
-
-impl Width {
-    #[inline(always)]
-    pub fn count(self) -> u64
-        ensures { result ≡ bytes_of self }
-    {
-        match self {
-            Width::Byte => 1,
-            Width::Half => 2,
-            Width::Word => 4,
-            Width::Double => 8,
-        }
-    }
-
-    /// From here on the numbers of this width are negative, as signed ones.
-    #[inline(always)]
-    pub fn half(self) -> u64
-        ensures { result ≡ half_of self }
-    {
-        match self {
-            Width::Byte => 0x80,
-            Width::Half => 0x8000,
-            Width::Word => 0x8000_0000,
-            Width::Double => 0x8000_0000_0000_0000,
-        }
-    }
 }
 
 /// Where the bytes of an access stand.

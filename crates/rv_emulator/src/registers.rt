@@ -1,10 +1,7 @@
 //! The registers.
 ghost use Rattle.std.specs.Prelude.{◌≡◌, slice_index};
 
-/// The slot that has 0: register 0 is read from it, whatever was written to its own.
-pub const ZERO: u8 = 32;
-
-/// The 32 registers, and the slot `ZERO`.
+/// The 32 registers, and the slot that has 0 (`rv_words::ZERO`), from which register 0 is read.
 #[derive(Clone, Copy, Debug, PartialEq, Eq)]
 pub struct Registers {
     words: [u64; 33],
@@ -14,7 +11,7 @@ pub struct Registers {
 impl Registers {
     ghost use Rattle.std.specs.Prelude.{◌<◌};
     ghost use Rattle.rv_form.specs.Machine.{with_reg};
-    ghost use Rattle.rv_emulator.specs.Packed.{IsSource, number_of};
+    ghost use Rattle.rv_words.specs.Packed.{IsSource, number_of};
     ghost use Rattle.rv_emulator.specs.States.{reads, regs_of};
 
     pub fn new() -> Registers

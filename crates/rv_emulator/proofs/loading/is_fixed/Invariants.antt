@@ -3,4 +3,4 @@ use Rattle.rv_emulator.specs.Memory.{flags_in, has_flag}
 use Rattle.rv_emulator.proofs.loading.is_fixed.Given as goal
 
 abbrev pub invariant-loop-i : goal.invariant-loop-i
-invariant-loop-i l = (i : ℕ) → i < l.i → has_flag (flags_in l.regions (l.pc + i)) 2 ≡ false
+invariant-loop-i l = (i : ℕ) → i < l.i → has_flag (flags_in l.memory.regions (l.pc + i)) 2 ≡ false

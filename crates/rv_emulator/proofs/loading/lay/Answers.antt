@@ -1,4 +1,4 @@
-use Rattle.rv_emulator.proofs.Backwards.{each_lays_out, loadable}
+use Rattle.rv_emulator.proofs.EitherOrder.{each_lays_out, loadable}
 use Rattle.rv_emulator.proofs.loading.lay.Goals as goal
 
 pub lay_in_order-requires : goal.lay_in_order-requires

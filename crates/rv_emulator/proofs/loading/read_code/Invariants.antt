@@ -6,5 +6,5 @@ abbrev pub invariant-loop-at : goal.invariant-loop-at
 invariant-loop-at l =
     record {
       count : length l.words.items ≡ l.at;
-      cached : IsCached l.regions l.bytes l.base l.words.items;
+      cached : IsCached l.memory l.base l.words.items;
     }

@@ -1,12 +1,11 @@
 use Rattle.std.proofs.Common.{ap, ◌∙◌, ◌<◌, ◌+◌, ◌*◌, Some, arith}
-use Rattle.rv_emulator.proofs.Digits.{digit_more, bytes_fit}
-use Rattle.rv_emulator.proofs.Places.{first_place, low_place, whole_fits, loaded_more}
+use Rattle.rv_emulator.proofs.BytesOfNumbers.{digit_more, bytes_fit}
+use Rattle.rv_emulator.proofs.OnePlaceEach.{low_address, whole_fits, loaded_more}
 use Rattle.rv_emulator.proofs.memory.+load_apart.Goals as goal
 
 pub overflow_add-a : goal.overflow_add-a
 overflow_add-a t c =
-    let place = first_place c.args.regions.now c.args.a 1 c.in-Whole.at c.in-Whole.flags (omega arith) c.in-Whole.ensures in
-    let low = low_place 0 c.args.regions.now c.args.a c.in-Whole.at c.requires.laid.low place in
+    let low = low_address c.args.regions.now c.args.a c.in-Whole.at c.in-Whole.flags c.requires.laid.low c.in-Whole.ensures in
     omega arith
 
 pub bounds-bytes-at : goal.bounds-bytes-at

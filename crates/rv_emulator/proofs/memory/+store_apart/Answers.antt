@@ -1,8 +1,8 @@
 use Rattle.std.proofs.Common.{ap, ◌∙◌, ◌/◌, ◌+◌, ◌-◌, arith}
 use Rattle.rv_form.specs.Machine.{store}
 use Rattle.rv_emulator.specs.Memory.{memory_of}
-use Rattle.rv_emulator.proofs.Places.{first_place, low_place, whole_fits}
-use Rattle.rv_emulator.proofs.Stores.{one_store, store_then}
+use Rattle.rv_emulator.proofs.OnePlaceEach.{low_address, whole_fits}
+use Rattle.rv_emulator.proofs.StoredBytes.{one_store, store_then}
 use Rattle.rv_emulator.proofs.memory.+store_apart.Goals as goal
 
 pub bounds-bytes-at : goal.bounds-bytes-at
@@ -12,8 +12,7 @@ bounds-bytes-at t c =
 
 pub overflow_add-a : goal.overflow_add-a
 overflow_add-a t c =
-    let place = first_place c.args.regions.now c.args.a 1 c.in-Whole.at c.in-Whole.flags (omega arith) c.in-Whole.ensures in
-    let low = low_place 0 c.args.regions.now c.args.a c.in-Whole.at c.requires.laid.low place in
+    let low = low_address c.args.regions.now c.args.a c.in-Whole.at c.in-Whole.flags c.requires.laid.low c.in-Whole.ensures in
     omega arith
 
 pub returns-in-Whole-clause-stored : goal.returns-in-Whole-clause-stored

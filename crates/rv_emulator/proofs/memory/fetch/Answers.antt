@@ -1,6 +1,6 @@
 use Rattle.std.proofs.Common.{◌≡◌, subst, arith}
-use Rattle.rv_emulator.specs.Packed.{IsReady}
-use Rattle.rv_emulator.proofs.Fetching.{loaded_low}
+use Rattle.rv_words.specs.Packed.{IsReady}
+use Rattle.rv_emulator.proofs.CodeStays.{loaded_low}
 use Rattle.rv_emulator.proofs.memory.fetch.Goals as goal
 
 pub returns-in-Some-clause-ready : goal.returns-in-Some-clause-ready

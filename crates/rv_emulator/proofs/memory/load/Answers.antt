@@ -1,7 +1,8 @@
 use Rattle.std.proofs.Common.{subst}
-use Rattle.rv_emulator.specs.Memory.{IsWhole, bytes_of}
-use Rattle.rv_emulator.proofs.Digits.{some_bytes}
-use Rattle.rv_emulator.proofs.Places.{whole_fits, whole_loaded, whole_refused}
+use Rattle.rv_emulator.specs.Memory.{IsWhole}
+use Rattle.rv_words.specs.Widths.{bytes_of}
+use Rattle.rv_emulator.proofs.BytesOfNumbers.{some_bytes}
+use Rattle.rv_emulator.proofs.OnePlaceEach.{whole_fits, whole_loaded, whole_refused}
 use Rattle.rv_emulator.proofs.memory.load.Goals as goal
 
 pub word_at-requires : goal.word_at-requires

@@ -1,6 +1,6 @@
 use Rattle.std.proofs.Common.{ap, ◌∙◌, ◌/◌, rules}
 use Rattle.std.specs.Prelude.{slice_index}
-use Rattle.rv_emulator.proofs.Stores.{put_more, next_digit}
+use Rattle.rv_emulator.proofs.StoredBytes.{put_more, next_digit}
 use Rattle.rv_emulator.proofs.memory.put_at.Goals as goal
 
 pub loop-i-preserved : goal.loop-i-preserved

@@ -1,7 +1,6 @@
-use Rattle.std.proofs.Common.{◌-◌, ◌≤◌}
+use Rattle.std.proofs.Common.{◌≡◌, ◌-◌, ◌≤◌}
 use Rattle.scheme_base.specs.Runs.{after}
 use Rattle.rv_form.specs.Machine.{Running, machine_in}
-use Rattle.rv_emulator.specs.Memory.{Laid}
 use Rattle.rv_emulator.specs.Plays.{Plays}
 use Rattle.rv_emulator.specs.States.{IsCached, state_of, world_with}
 use Rattle.rv_emulator.proofs.step.do_steps.Given as goal
@@ -12,14 +11,14 @@ invariant-loop-left g l =
       plays :
           Plays
           (λ env calls.
-          after (machine_in (world_with l.regions env)) (l.count - l.left)
-          (Running (state_of l.initial.pc l.initial.registers l.regions l.initial.bytes calls)))
-          (λ calls. Running (state_of l.pc l.registers l.regions l.bytes calls))
+          after (machine_in (world_with l.initial.memory.regions env)) (l.count - l.left)
+          (Running (state_of l.initial.pc l.initial.registers l.initial.memory calls)))
+          (λ calls. Running (state_of l.pc l.registers l.memory calls))
           (g.C.Console.told l.initial.console)
           (g.C.Console.told l.console);
       most : l.left ≤ l.count;
-      laid : Laid l.regions l.bytes;
-      cached : IsCached l.regions l.bytes l.base l.words;
+      regions : l.memory.regions ≡ l.initial.memory.regions;
+      cached : IsCached l.memory l.base l.words;
     }
 
 abbrev pub decreases-loop-left : goal.decreases-loop-left

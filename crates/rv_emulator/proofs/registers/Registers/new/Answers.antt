@@ -1,5 +1,5 @@
 use Rattle.std.proofs.Math.Path.{fun_ext}
-use Rattle.rv_emulator.proofs.Digits.{zeros_at}
+use Rattle.rv_emulator.proofs.BytesOfNumbers.{zeros_at}
 use Rattle.rv_emulator.proofs.registers.Registers.new.Goals as goal
 
 pub returns : goal.returns

@@ -1,11 +1,10 @@
--- Words of code as the emulator keeps them, decoded.
-use Rattle.std.specs.Prelude.{ℕ, ℤ, ◌<◌, ◌≤◌, ◌≡◌, ◌*◌, Option, Some, None, if◌then◌else◌, nat_eq, List, length, slice_index_or}
+-- Words of code, decoded: the instruction that an operation and its operands are.
+use Rattle.std.specs.Prelude.{ℕ, ℤ, ◌<◌, ◌≤◌, Option, Some, None, if◌then◌else◌, nat_eq}
 use Rattle.rv_form.specs.Machine.{Fetched, Found, NoWord, NoPlace}
-use Rattle.rv_form.specs.Arithmetic.{sub}
 use Rattle.rv_form.specs.declared.instr.Instr.TheVariants as rv
-use Rattle.rv_emulator.specs.declared.decoded.Op.{Op}
-use Rattle.rv_emulator.specs.declared.decoded.Op.TheVariants as op
-use Rattle.rv_emulator.specs.declared.decoded.Decoded.{Decoded}
+use Rattle.rv_words.specs.declared.decoded.Op.{Op}
+use Rattle.rv_words.specs.declared.decoded.Op.TheVariants as op
+use Rattle.rv_words.specs.declared.decoded.Decoded.{Decoded}
 
 -- a slot from which a register may be read, and the register: slot 32 is that of register 0
 abbrev pub IsSource : ℕ → Type 0
@@ -92,10 +91,3 @@ seen_as None = NoPlace
 
 abbrev pub IsReady : Decoded → Type 0
 IsReady word = (word.rd < 32) × IsSource word.rs1 × IsSource word.rs2
-
--- a word is the one at a place, of those from `base` on
-pub record IsWordAt (base : ℕ) (words : List Decoded) (pc : ℕ) (word : Decoded) : Type 0 where
-  pub at : ℕ
-  pub within : at < length words
-  pub offset : sub pc base ≡ 4 * at
-  pub is : slice_index_or words at word ≡ word

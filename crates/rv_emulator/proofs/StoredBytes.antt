@@ -7,8 +7,7 @@ use Rattle.std.specs.Prelude.{nat_eq, nat_lt, nat_le, ◌&&◌, slice_index, sli
 use Rattle.rv_form.specs.Machine.{store}
 use Rattle.rv_emulator.specs.declared.region.Region.{Region}
 use Rattle.rv_emulator.specs.Memory.{place_from, flags_in, byte_in, memory_of, has_flag, all_flagged, IsWhole}
-use Rattle.rv_emulator.specs.States.{Kept}
-use Rattle.rv_emulator.proofs.Places.{one_address}
+use Rattle.rv_emulator.proofs.OnePlaceEach.{one_address}
 
 pub store_in : (count : ℕ) (memory : ℕ → ℕ) (a value b : ℕ) → a ≤ b → b < a + count
     → store count memory a value b ≡ value / 256 ^ (b - a) % 256
@@ -182,7 +181,8 @@ flag_within regions flag (suc count) a b usable low high =
 
 -- a store changes no byte that may not be written
 pub store_keeps : (regions : List Region) (old new : List ℕ) (count a value : ℕ) → all_flagged regions 2 count a ≡ true
-    → memory_of regions new ≡ store count (memory_of regions old) a value → Kept regions old new
+    → memory_of regions new ≡ store count (memory_of regions old) a value
+    → (b : ℕ) → has_flag (flags_in regions b) 2 ≡ false → memory_of regions new b ≡ memory_of regions old b
 store_keeps regions old new count a value usable stored b fixed =
     ap (λ memory. memory b) stored ∙ go (lies a count b)
   where

@@ -1,13 +1,12 @@
 -- Segments that rise are the same memory from the last one on.
-use Rattle.std.proofs.Common.{◌≡◌, ℕ, ◌+◌, ◌-◌, ◌<◌, ◌≤◌, Bool, true, false, map, List, [], ◌∷◌, ◌++◌, reverse, refl, sym, ap, ◌∙◌, arith}
+use Rattle.std.proofs.Common.{◌≡◌, ℕ, ◌+◌, ◌-◌, ◌<◌, Bool, true, false, map, List, [], ◌∷◌, ◌++◌, reverse, refl, sym, ap, ◌∙◌, arith}
 use Rattle.std.proofs.Math.Path.{fun_ext}
 use Rattle.std.proofs.lemmas.List.{reverse-append}
 use Rattle.std.specs.List.{flat_map}
 use Rattle.std.specs.Prelude.{IfOk, Result, Ok, Err, if◌then◌else◌, ◌||◌, slice_index}
 use Rattle.rv_form.specs.declared.image.Segment.{Segment}
 use Rattle.rv_form.specs.Image.{lies_in, flags_at, byte_at}
-use Rattle.rv_emulator.specs.declared.loading.Memory.{Memory}
-use Rattle.rv_emulator.specs.declared.region.Region.{Region}
+use Rattle.rv_emulator.specs.Memory.{Contents}
 use Rattle.rv_emulator.specs.Loading.{AreFit, IsLoadable, LaysOut, Rise, bytes_in, ordered, region_of, room_of}
 
 -- what the first segment that has an address gives, and 0 where none has it
@@ -145,11 +144,11 @@ loadable true segments one =
     record { fit = fit_turned segments one.fit; room = rw (room_turned segments) one.room }
 
 -- and is laid out so
-lays_out : (backwards : Bool) (segments : List Segment) (regions : List Region) (bytes : List ℕ) → IsLoadable segments
+lays_out : (backwards : Bool) (segments : List Segment) (memory : Contents) → IsLoadable segments
     → (backwards ≡ true → Rise 0 segments)
-    → regions ≡ map region_of (ordered backwards segments) → bytes ≡ flat_map bytes_in (ordered backwards segments)
-    → LaysOut segments regions bytes
-lays_out false segments regions bytes one rise of_regions of_bytes =
+    → memory.regions ≡ map region_of (ordered backwards segments) → memory.bytes ≡ flat_map bytes_in (ordered backwards segments)
+    → LaysOut segments memory
+lays_out false segments memory one rise of_regions of_bytes =
     record {
       order = segments;
       fit = one.fit;
@@ -158,7 +157,7 @@ lays_out false segments regions bytes one rise of_regions of_bytes =
       same_bytes = refl;
       same_flags = λ a. refl;
     }
-lays_out true segments regions bytes one rise of_regions of_bytes =
+lays_out true segments memory one rise of_regions of_bytes =
     record {
       order = reverse segments;
       fit = fit_turned segments one.fit;
@@ -168,11 +167,11 @@ lays_out true segments regions bytes one rise of_regions of_bytes =
       same_flags = λ a. same_flags segments a (rise refl);
     }
 
-pub each_lays_out : {E : Type 0} (backwards : Bool) (segments : List Segment) (result : Result Memory E) → IsLoadable segments
+pub each_lays_out : {E : Type 0} (backwards : Bool) (segments : List Segment) (result : Result Contents E) → IsLoadable segments
     → (backwards ≡ true → Rise 0 segments)
-    → IfOk result (λ memory. memory.regions.items ≡ map region_of (ordered backwards segments))
-    → IfOk result (λ memory. memory.bytes.items ≡ flat_map bytes_in (ordered backwards segments))
-    → IfOk result (λ memory. LaysOut segments memory.regions.items memory.bytes.items)
+    → IfOk result (λ memory. memory.regions ≡ map region_of (ordered backwards segments))
+    → IfOk result (λ memory. memory.bytes ≡ flat_map bytes_in (ordered backwards segments))
+    → IfOk result (λ memory. LaysOut segments memory)
 each_lays_out backwards segments (Ok memory) one rise of_regions of_bytes =
-    lays_out backwards segments memory.regions.items memory.bytes.items one rise of_regions of_bytes
+    lays_out backwards segments memory one rise of_regions of_bytes
 each_lays_out backwards segments (Err e) one rise of_regions of_bytes = tt

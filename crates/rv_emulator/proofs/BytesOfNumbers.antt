@@ -2,9 +2,9 @@
 use Rattle.std.proofs.Common.{◌≡◌, ℕ, zero, suc, ◌+◌, ◌-◌, ◌*◌, ◌^◌, ◌<◌, ◌≤◌, refl, ap, arith}
 use Rattle.std.proofs.Math.Nat.{pow-succ'}
 use Rattle.std.specs.Prelude.{slice_index, replicate}
-use Rattle.rv_emulator.specs.declared.region.Width.{Width}
-use Rattle.rv_emulator.specs.declared.region.Width.TheVariants.{Byte, Half, Word, Double}
-use Rattle.rv_emulator.specs.Memory.{bytes_of}
+use Rattle.rv_words.specs.declared.access.Width.{Width}
+use Rattle.rv_words.specs.declared.access.Width.TheVariants.{Byte, Half, Word, Double}
+use Rattle.rv_words.specs.Widths.{bytes_of}
 
 pub some_bytes : (width : Width) → 0 < bytes_of width
 some_bytes Byte = omega arith

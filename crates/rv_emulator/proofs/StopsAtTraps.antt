@@ -1,5 +1,6 @@
 -- Where a machine has stopped.
-use Rattle.std.proofs.Common.{◌≡◌, ℕ, Bool, true, false, List, Option, Some, None, refl, sym, ap, subst, ◌∙◌}
+use Rattle.std.proofs.Common.{◌≡◌, ℕ, Bool, true, false, Option, Some, None, refl, sym, ap, subst, ◌∙◌}
+use Rattle.scheme_base.specs.declared.env.Env.{Env}
 use Rattle.scheme_base.specs.Outside.{Calls}
 use Rattle.scheme_base.specs.Runs.{after}
 use Rattle.rv_form.specs.Machine.{World, State, Run, Running, Ended, Trapped, Fetched, Found, NoWord, NoPlace, Ask, Answers, Reads, Writes, Sends, Leaves, Unknown, loaded, stored, asked, system, act, act_at, fetch, machine_in, step}
@@ -10,12 +11,14 @@ use Rattle.rv_emulator.specs.declared.next.End.TheVariants as ends
 use Rattle.rv_emulator.specs.Held.{Held, run_in, run_of, settled, settled_by, world_under}
 use Rattle.stalin_outside.specs.Console.{Told}
 use Rattle.rv_emulator.specs.Plays.{Plays}
-use Rattle.std.specs.Prelude.{slice_index}
-use Rattle.rv_emulator.specs.Memory.{memory_of}
+use Rattle.std.specs.Prelude.{List, slice_index}
 use Rattle.rv_emulator.specs.declared.region.Region.{Region}
+use Rattle.rv_emulator.specs.declared.system.Ask.{Ask as Wish}
+use Rattle.rv_emulator.specs.declared.system.Ask.TheVariants as wishes
+use Rattle.rv_emulator.specs.Memory.{Contents, memory_of}
 use Rattle.rv_emulator.specs.declared.registers.Registers.{Registers}
-use Rattle.rv_emulator.specs.States.{ended_as, state_of, trap_of, world_with}
-use Rattle.rv_emulator.proofs.Playing.{plays_alone, ended_stays}
+use Rattle.rv_emulator.specs.States.{ask_as, ended_as, state_of, trap_asked, trap_of, world_with}
+use Rattle.rv_emulator.proofs.RunsInTurn.{plays_alone, plays_then, plays_world, ended_stays}
 
 pub ended_settled : (w : World) (end : End) (calls : Calls) → settled w (ended_as end calls) ≡ ended_as end calls
 ended_settled w (ends.Exited status) calls = refl
@@ -88,6 +91,19 @@ stops w s kind is = by_next (step w (Running s)) is (step_traps w s)
         let same : k ≡ kind = cc in
         ap (λ k. Trapped k pc calls) same ∙ (ap (λ p. Trapped kind p calls) at.0 ∙ ap (λ c. Trapped kind s.pc c) at.1)
 
+pub asked_traps : (w : World) (wish : Wish) (s : State) → trap_of (system w (ask_as wish) s) ≡ trap_asked wish
+asked_traps w wishes.Unknown s = refl
+asked_traps w wish s = refl
+
+-- a run, and then a look at its next step
+pub settles : {from : Env → Calls → Run} {to : Calls → Run} {before now : Told} (old new : List Region) (s : Calls → State)
+    → new ≡ old → Plays from (λ calls. Running (s calls)) before now
+    → ((env : Env) (calls : Calls) → settled (world_with new env) (Running (s calls)) ≡ to calls)
+    → Plays (λ env calls. settled (world_with old env) (from env calls)) to before now
+settles old new s same plays is =
+    plays_then (λ env run. settled (world_with old env) run) plays
+    (plays_world (λ w calls. settled w (Running (s calls))) same (plays_alone is))
+
 -- a machine that has stopped stays so
 pub stopped_plays : (held : Held) (end : End) (steps : ℕ) (t : Told) → held.end ≡ Some end
     → Plays (λ env calls. settled (world_under held env) (after (machine_in (world_under held env)) steps (run_of held calls))) (run_of held) t t
@@ -106,29 +122,24 @@ held_plays held held' steps t t' =
     (run_of held')
     t t'
 
-abbrev part_plays : (steps pc gone : ℕ) (registers registers' : Registers) (regions : List Region) (bytes new : List ℕ)
-    (end : Option End) (t t' : Told) → Type 0
-part_plays steps pc gone registers registers' regions bytes new end t t' =
+abbrev part_plays : (steps pc gone : ℕ) (registers registers' : Registers) (memory new : Contents) (end : Option End) (t t' : Told) → Type 0
+part_plays steps pc gone registers registers' memory new end t t' =
     Plays
     (λ env calls.
-    settled (world_with regions env)
-    (after (machine_in (world_with regions env)) steps (Running (state_of pc registers regions bytes calls))))
-    (λ calls. run_in end (state_of gone registers' regions new calls))
+    settled (world_with memory.regions env)
+    (after (machine_in (world_with memory.regions env)) steps (Running (state_of pc registers memory calls))))
+    (λ calls. run_in end (state_of gone registers' new calls))
     t t'
 
-abbrev holding : (pc : ℕ) → Registers → List Region → List ℕ → Option End → Held
-holding pc registers regions bytes end =
-    record { regions = regions; bytes = bytes; registers = registers.words; pc = pc; end = end }
+abbrev holding : (pc : ℕ) → Registers → Contents → Option End → Held
+holding pc registers memory end =
+    record { regions = memory.regions; bytes = memory.bytes; registers = registers.words; pc = pc; end = end }
 
 -- what is said of the parts of a machine, said of the whole
-pub whole_plays : (held : Held) (steps pc gone : ℕ) (registers registers' : Registers) (regions regions' : List Region)
-    (bytes bytes' new new' : List ℕ) (at end : Option End) (t t' : Told) → at ≡ None → holding pc registers regions bytes at ≡ held
-    → regions' ≡ regions → bytes' ≡ bytes → new ≡ new'
-    → part_plays steps pc gone registers registers' regions' bytes' new end t t'
-    → held_plays held (holding gone registers' regions new' end) steps t t'
-whole_plays held steps pc gone registers registers' regions regions' bytes bytes' new new' at end t t' none is same_regions same_bytes same_new plays =
-    subst (λ h. held_plays h (holding gone registers' regions new' end) steps t t')
-    (ap (holding pc registers regions bytes) (sym none) ∙ is)
-    (subst (λ n. part_plays steps pc gone registers registers' regions bytes n end t t') same_new
-    (subst (λ b. part_plays steps pc gone registers registers' regions b new end t t') same_bytes
-    (subst (λ r. part_plays steps pc gone registers registers' r bytes' new end t t') same_regions plays)))
+pub whole_plays : (held : Held) (steps pc gone : ℕ) (registers registers' : Registers) (memory new : Contents)
+    (at end : Option End) (t t' : Told) → at ≡ None → holding pc registers memory at ≡ held
+    → part_plays steps pc gone registers registers' memory new end t t'
+    → held_plays held (holding gone registers' new end) steps t t'
+whole_plays held steps pc gone registers registers' memory new at end t t' none is plays =
+    subst (λ h. held_plays h (holding gone registers' new end) steps t t')
+    (ap (holding pc registers memory) (sym none) ∙ is) plays

@@ -4,10 +4,15 @@ use Rattle.scheme_base.specs.declared.env.Env.{Env}
 use Rattle.scheme_base.specs.Outside.{Calls}
 use Rattle.scheme_base.specs.Runs.{after}
 use Rattle.scheme_base.proofs.Simulations.{after-add}
-use Rattle.rv_form.specs.Machine.{World, Run, machine_in, step}
+use Rattle.rv_form.specs.Machine.{World, Run, Running, act_at, machine_in, step}
 use Rattle.rv_emulator.specs.declared.next.End.{End}
 use Rattle.rv_emulator.specs.declared.next.End.TheVariants as ends
-use Rattle.rv_emulator.specs.States.{ended_as}
+use Rattle.rv_emulator.specs.declared.region.Region.{Region}
+use Rattle.rv_emulator.specs.declared.registers.Registers.{Registers}
+use Rattle.rv_words.specs.declared.decoded.Decoded.{Decoded}
+use Rattle.rv_words.specs.Packed.{fetched_of}
+use Rattle.rv_emulator.specs.Memory.{Contents}
+use Rattle.rv_emulator.specs.States.{StandsAt, ended_as, state_of, world_with}
 use Rattle.stalin_outside.specs.Console.{Told}
 use Rattle.stalin_outside.specs.Environment.{AnswersAs, with_call, calls_with, Gives}
 use Rattle.stalin_outside.specs.Transcript.{Call, Passes}
@@ -63,6 +68,22 @@ pub plays_same : {from from' : Env → Calls → Run} {to : Calls → Run} {befo
 plays_same same one =
     record { made = one.made; passes = one.passes; runs = λ env calls gives. same env calls ∙ one.runs env calls gives }
 
+-- regions that are the same are the same world
+pub plays_world : {to : Calls → Run} {before now : Told} {old new : List Region} (run : World → Calls → Run) → new ≡ old
+    → Plays (λ env calls. run (world_with new env) calls) to before now
+    → Plays (λ env calls. run (world_with old env) calls) to before now
+plays_world run same one =
+    plays_same (λ env calls. ap (λ regions. run (world_with regions env) calls) (sym same)) one
+
+-- a step of a word that stands at a place, and calls nothing
+pub acts : {to : Calls → Run} {t : Told} (memory : Contents) (pc : ℕ) (word : Decoded) (registers : Registers)
+    → StandsAt memory pc word
+    → ((env : Env) (calls : Calls) → act_at (world_with memory.regions env) (fetched_of word) (state_of pc registers memory calls) ≡ to calls)
+    → Plays (λ env calls. step (world_with memory.regions env) (Running (state_of pc registers memory calls))) to t t
+acts memory pc word registers here does =
+    plays_alone (λ env calls.
+    ap (λ seen. act_at (world_with memory.regions env) seen (state_of pc registers memory calls)) here.stands ∙ does env calls)
+
 -- one step more
 pub after_one_more : (w : World) (n : ℕ) (run : Run) → after (machine_in w) (n + 1) run ≡ step w (after (machine_in w) n run)
 after_one_more w n run = after-add (machine_in w) n 1 run
@@ -78,6 +99,17 @@ plays_on {to = to} again stays one =
       runs = λ env calls gives.
           ap (again env) (one.runs env calls gives) ∙ stays env (calls_with env calls one.made);
     }
+
+-- so many steps, and then one
+pub one_more : {to : Calls → Run} {before between now : Told} (old new : List Region) (n k : ℕ) (start middle : Calls → Run)
+    → k ≡ n + 1 → new ≡ old
+    → Plays (λ env calls. after (machine_in (world_with old env)) n (start calls)) middle before between
+    → Plays (λ env calls. step (world_with new env) (middle calls)) to between now
+    → Plays (λ env calls. after (machine_in (world_with old env)) k (start calls)) to before now
+one_more old new n k start middle e same earlier last =
+    plays_same
+    (λ env calls. ap (λ m. after (machine_in (world_with old env)) m (start calls)) e ∙ after_one_more (world_with old env) n (start calls))
+    (plays_then (λ env run. step (world_with old env) run) earlier (plays_world (λ w calls. step w (middle calls)) same last))
 
 pub ended_stays : (w : World) (n : ℕ) (end : End) (calls : Calls) → after (machine_in w) n (ended_as end calls) ≡ ended_as end calls
 ended_stays w zero end calls = refl
@@ -97,15 +129,6 @@ after_whole w count left run most =
     let e : count ≡ count - left + left = omega arith in
     ap (λ k. after (machine_in w) k run) e ∙ after-add (machine_in w) (count - left) left run
 
--- a run whose next step ends it
-pub ends_in : (w : World) (n : ℕ) (run : Run) (end : End) (calls : Calls) → 0 < n → step w run ≡ ended_as end calls
-    → after (machine_in w) n run ≡ ended_as end calls
-ends_in w n run end calls some is =
-    let e : n ≡ 1 + (n - 1) = omega arith in
-    ap (λ k. after (machine_in w) k run) e
-    ∙ (after-add (machine_in w) 1 (n - 1) run
-    ∙ (ap (after (machine_in w) (n - 1)) is ∙ ended_stays w (n - 1) end calls))
-
 pub after_rest : (w : World) (n count : ℕ) (run : Run) → n < count
     → after (machine_in w) count run ≡ after (machine_in w) (count - (n + 1)) (step w (after (machine_in w) n run))
 after_rest w n count run within =
@@ -113,3 +136,15 @@ after_rest w n count run within =
     ap (λ k. after (machine_in w) k run) e
     ∙ (after-add (machine_in w) (n + 1) (count - (n + 1)) run
     ∙ ap (after (machine_in w) (count - (n + 1))) (after_one_more w n run))
+
+-- of many steps all but one are left after one
+pub after_first : (w : World) (count : ℕ) (run : Run) → 0 < count → after (machine_in w) (count - (count - 1)) run ≡ step w run
+after_first w count run some =
+    let e : count - (count - 1) ≡ 0 + 1 = omega arith in ap (λ k. after (machine_in w) k run) e ∙ after_one_more w 0 run
+
+-- a step that ends a run ends all of it
+pub ends_all : (w : World) (count : ℕ) (run : Run) → 0 < count
+    → after (machine_in w) (count - 0) run ≡ after (machine_in w) (count - 1) (step w run)
+ends_all w count run some =
+    let e : count - 0 ≡ count = omega arith in
+    ap (λ k. after (machine_in w) k run) e ∙ after_rest w 0 count run some

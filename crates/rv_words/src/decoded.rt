@@ -2,10 +2,12 @@
 ghost use Rattle.std.specs.Prelude.{◌≡◌, ◌<◌};
 ghost use Rattle.rv_form.specs.Instruction.{IsValid};
 ghost use Rattle.rv_form.specs.Machine.{Found};
-ghost use Rattle.rv_emulator.specs.Packed.{IsReady, IsSource, fetched_by, fetched_of, number_of};
+ghost use Rattle.rv_words.specs.Packed.{IsReady, IsSource, fetched_by, fetched_of, number_of};
 
-use crate::registers::ZERO;
 use rv_form::Instr;
+
+/// The slot that has 0: register 0 is read from it, whatever was written to its own.
+pub const ZERO: u8 = 32;
 
 /// The operation of a word: that of the instruction of this name.
 #[derive(Clone, Copy)]
@@ -91,7 +93,7 @@ pub struct Decoded {
 }
 
 /// The slot from which a register is read.
-pub fn source(r: u8) -> u8
+fn source(r: u8) -> u8
     requires { r < 32 }
     ensures number { number_of result ≡ r }
     ensures slot { IsSource result }

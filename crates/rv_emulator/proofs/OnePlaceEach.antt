@@ -75,6 +75,9 @@ pub first_flags : (regions : List Region) (a count at flags : ℕ) → 0 < count
 first_flags regions a count at flags some whole =
     let e : a ≡ a + 0 = omega arith in ap (flags_in regions) e ∙ whole.flagged 0 some
 
+pub low_address : (regions : List Region) (a at flags : ℕ) → AreLow regions → IsWhole regions a 1 at flags → a < 2 ^ 47
+low_address regions a at flags low whole = low_place 0 regions a at low (first_place regions a 1 at flags (omega arith) whole)
+
 -- a stretch ends where the bytes end, or before
 pub whole_fits : (regions : List Region) (bytes : List ℕ) (a count at flags : ℕ) → Laid regions bytes → 0 < count
     → IsWhole regions a count at flags → at + count ≤ length bytes

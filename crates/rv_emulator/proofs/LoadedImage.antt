@@ -7,8 +7,7 @@ use Rattle.std.specs.Prelude.{nat_eq, nat_lt, if◌then◌else◌, map, replicat
 use Rattle.std.specs.List.{flat_map}
 use Rattle.rv_form.specs.declared.image.Segment.{Segment}
 use Rattle.rv_form.specs.Image.{Access, flag_of, lies_in, flags_at, byte_at, allows}
-use Rattle.rv_emulator.specs.declared.region.Region.{Region}
-use Rattle.rv_emulator.specs.Memory.{place_from, flags_in, byte_in, memory_of, allowed, total_of, AreLow, Laid}
+use Rattle.rv_emulator.specs.Memory.{Contents, cells, place_from, flags_in, byte_in, memory_of, allowed, total_of, AreLow, Laid}
 use Rattle.rv_emulator.specs.Loading.{AreFit, LaysOut, bytes_in, region_of}
 use Rattle.scheme_base.specs.declared.env.Env.{Env}
 use Rattle.scheme_base.specs.Outside.{Calls, no_calls}
@@ -17,7 +16,7 @@ use Rattle.rv_form.specs.Machine.{World, Run, Running}
 use Rattle.rv_emulator.specs.declared.registers.Registers.{Registers}
 use Rattle.rv_emulator.specs.Held.{StartsAs}
 use Rattle.rv_emulator.specs.States.{regs_of}
-use Rattle.rv_emulator.proofs.Digits.{zeros_at}
+use Rattle.rv_emulator.proofs.BytesOfNumbers.{zeros_at}
 
 pub written_back : {A : Type 0} (new rest : List A) (len : ℕ) → len ≡ length new → take len (new ++ rest) ≡ new
 written_back new rest len is = subst (λ n. take n (new ++ rest) ≡ new) (sym is) (whole new rest)
@@ -113,26 +112,23 @@ same_flags (segment ∷ rest) a = ap (λ n. if lies_in segment a then segment.fl
 pub same_uses : (segments : List Segment) → allowed (map region_of segments) ≡ allows segments
 same_uses segments = fun_ext (λ access. fun_ext (λ a. ap (λ n. nat_eq (n / flag_of access % 2) 1) (same_flags segments a)))
 
-pub laid_out : (segments : List Segment) (regions : List Region) (bytes : List ℕ) → LaysOut segments regions bytes → Laid regions bytes
-laid_out segments regions bytes out = rw (out.of_regions, out.of_bytes) (are_laid out.order out.fit)
-
-pub starts_as : (image : Image) (regions : List Region) (bytes : List ℕ) (registers : Registers) → LaysOut image.segments regions bytes
+pub starts_as : (image : Image) (memory : Contents) (registers : Registers) → LaysOut image.segments memory
     → regs_of registers ≡ (λ r. 0)
-    → StartsAs image (record { regions = regions; bytes = bytes; registers = registers.words; pc = image.entry; end = None })
-starts_as image regions bytes registers out zeros =
+    → StartsAs image (record { regions = memory.regions; bytes = memory.bytes; registers = registers.words; pc = image.entry; end = None })
+starts_as image memory registers out zeros =
     let same : allows out.order ≡ allows image.segments =
     fun_ext (λ access. fun_ext (λ a. ap (λ n. nat_eq (n / flag_of access % 2) 1) (out.same_flags a)))
     in
-    let uses : allowed regions ≡ allows image.segments = ap allowed out.of_regions ∙ (same_uses out.order ∙ same) in
-    let memory : memory_of regions bytes ≡ byte_at image.segments =
-    ap (λ r. memory_of r bytes) out.of_regions
+    let uses : allowed memory.regions ≡ allows image.segments = ap allowed out.of_regions ∙ (same_uses out.order ∙ same) in
+    let loaded : cells memory ≡ byte_at image.segments =
+    ap (λ r. memory_of r memory.bytes) out.of_regions
     ∙ (ap (memory_of (map region_of out.order)) out.of_bytes ∙ (same_memory out.order out.fit ∙ out.same_bytes))
     in
     record {
       uses = λ env. ap (λ u. as_world u env) uses;
       begins = λ env.
-          ap (λ regs. begun image.entry regs (memory_of regions bytes) (no_calls env)) zeros
-          ∙ ap (λ m. begun image.entry (λ r. 0) m (no_calls env)) memory;
+          ap (λ regs. begun image.entry regs (cells memory) (no_calls env)) zeros
+          ∙ ap (λ m. begun image.entry (λ r. 0) m (no_calls env)) loaded;
     }
   where
     as_world : (Access → ℕ → Bool) → Env → World
