@@ -1,3 +1,7 @@
-mod EachIsAClause
-mod EachIsABinding
-mod FirstItem
+pub mod Chains
+pub mod EachIsABinding
+pub mod EachIsAClause
+pub mod FirstItem
+pub mod Listing
+pub mod TemplateKinds
+pub mod TemplateEnds

@@ -1,6 +1,14 @@
 //! The template of a quasiquote (R4RS 4.2.6).
 
-use crate::shape::{is_word, list_items};
+ghost use Rattle.std.specs.Prelude.{◌≡◌, ℕ, suc, [], ◌∷◌, List as Seq, Option as Perhaps, OnOk, IfOk, MatchOption, None};
+ghost use Rattle.datum_form.specs.declared.datums.Node.{Node as Kept};
+ghost use Rattle.datum_form.specs.Data.{Datum, Items};
+ghost use Rattle.datum_form.specs.Data.Items.{none};
+ghost use Rattle.datum_form.specs.Stands.{Stands, StandAll};
+ghost use Rattle.quasi_expand.specs.Levels.{evaluated, in_item, in_items, in_chain, unquoted as unquoted_at};
+ghost use Rattle.quasi_expand.specs.Steps.{exprs_in, marks, Puts, Gives, MayGive, Lists, IsNext, TailStands, EndsIn, IsSplit, IsSpliced};
+
+use crate::shape::{is_word, kind_at, list_items};
 use datum_form::{Kind, Node};
 use std::alloc::{AllocError, Global};
 
@@ -22,11 +30,9 @@ pub enum Part {
 }
 
 /// The steps that make the value of a template. A datum in which no expression stands is one step.
-pub fn read_template(
-    alloc: Global,
-    nodes: &[Node],
-    template: u32,
-) -> Result<Vec<Part>, AllocError> {
+pub fn read_template(alloc: Global, nodes: &[Node], template: u32) -> Result<Vec<Part>, AllocError>
+    ensures { IfOk result (λ parts. (d : Datum) → Stands nodes.now template d → StandAll nodes.now (exprs_in parts.items) (evaluated d 0)) }
+{
     let mut parts = Vec::new(alloc);
     datum(nodes, template, 0, nodes.len(), &mut parts)?;
     Ok(parts)
@@ -49,7 +55,9 @@ enum Mark {
 }
 
 /// The mark that a name is.
-fn mark_of(nodes: &[Node], name: u32) -> Option<Mark> {
+fn mark_of(nodes: &[Node], name: u32) -> Option<Mark>
+    ensures { (d : Datum) → Stands nodes.now name d → result ≡ marks d }
+{
     if is_word(nodes, name, b"unquote") {
         return Some(Mark::Unquote);
     }
@@ -60,11 +68,23 @@ fn mark_of(nodes: &[Node], name: u32) -> Option<Mark> {
 }
 
 /// The items of a list, without those that are its end.
-fn split_end<'a>(nodes: &[Node], items: &'a [u32], tail: Option<u32>) -> (&'a [u32], End) {
-    if let Some(tail) = tail {
-        return (items, End::Tail(tail));
+fn split_end<'a>(nodes: &[Node], items: &'a [u32], tail: Option<u32>) -> (&'a [u32], End)
+    ensures { (ds : Items) (d : Perhaps Datum) → StandAll nodes.now items.now ds → TailStands nodes.now tail d → IsSplit nodes.now result.0.now result.1 ds d }
+{
+    match tail {
+        Some(tail) => (items, End::Tail(tail)),
+        None => split_marked(nodes, items),
     }
-    let [before @ .., name, operand] = items else {
+}
+
+/// The items of a list that has no tail, without a mark and its operand at its end.
+fn split_marked<'a>(nodes: &[Node], items: &'a [u32]) -> (&'a [u32], End)
+    ensures { (ds : Items) → StandAll nodes.now items.now ds → IsSplit nodes.now result.0.now result.1 ds None }
+{
+    let Some((operand, others)) = items.split_last() else {
+        return (items, End::Empty);
+    };
+    let Some((name, before)) = others.split_last() else {
         return (items, End::Empty);
     };
     match mark_of(nodes, *name) {
@@ -74,7 +94,9 @@ fn split_end<'a>(nodes: &[Node], items: &'a [u32], tail: Option<u32>) -> (&'a [u
 }
 
 /// The name and the expression of an `(unquote-splicing e)`.
-fn spliced(nodes: &[Node], item: u32) -> Option<(u32, u32)> {
+fn spliced(nodes: &[Node], item: u32) -> Option<(u32, u32)>
+    ensures { (d : Datum) → Stands nodes.now item d → IsSpliced nodes.now result d }
+{
     let [name, expr] = list_items(nodes, item)? else {
         return None;
     };
@@ -94,29 +116,45 @@ fn datum(
     level: usize,
     depth: usize,
     parts: &mut Vec<Part>,
-) -> Result<bool, AllocError> {
-    let Some(node) = nodes.get(id as usize) else {
+) -> Result<bool, AllocError>
+    ensures { IfOk result (λ found. (d : Datum) → Stands nodes.now id d → Gives nodes.now found parts.old.items parts.new.items (evaluated d level)) }
+{
+    let Some(kind) = kind_at(nodes, id) else {
         return Err(AllocError);
     };
     if depth == 0 {
         return Err(AllocError);
     }
-    match &node.kind {
+    match kind {
         Kind::List { items, tail } => {
             chain(nodes, id, items.as_slice(), *tail, level, depth - 1, parts)
         }
-        Kind::Vector { items } => {
-            let made = chain(nodes, id, items.as_slice(), None, level, depth - 1, parts)?;
-            if made {
-                parts.push(Part::Vector)?;
-            }
-            Ok(made)
-        }
+        Kind::Vector { items } => row(nodes, id, items.as_slice(), level, depth - 1, parts),
         _ => {
             parts.push(Part::Datum(id))?;
             Ok(false)
         }
     }
+}
+
+/// Adds the steps of a vector of some items.
+#[cycle(template)]
+fn row(
+    nodes: &[Node],
+    node: u32,
+    items: &[u32],
+    level: usize,
+    depth: usize,
+    parts: &mut Vec<Part>,
+) -> Result<bool, AllocError>
+    ensures { IfOk result (λ found. (ds : Items) → StandAll nodes.now items.now ds → Gives nodes.now found parts.old.items parts.new.items (in_chain ds None level)) }
+{
+    let found = chain(nodes, node, items, None, level, depth, parts)?;
+    if found {
+        parts.push(Part::Vector)?;
+        return Ok(true);
+    }
+    Ok(false)
 }
 
 /// Adds the steps of the list of some items before a tail, which stand in this node. What stands after the
@@ -130,28 +168,82 @@ fn chain(
     level: usize,
     depth: usize,
     parts: &mut Vec<Part>,
-) -> Result<bool, AllocError> {
+) -> Result<bool, AllocError>
+    ensures { IfOk result (λ found. (ds : Items) (d : Perhaps Datum) → StandAll nodes.now items.now ds → TailStands nodes.now tail d → Gives nodes.now found parts.old.items parts.new.items (in_chain ds d level)) }
+{
     let start = parts.len();
     let (before, end) = split_end(nodes, items, tail);
-    let mut made = 0;
-    for (index, item) in before.iter().enumerate() {
-        if element(nodes, *item, level, depth, parts)? {
-            made = index + 1;
-        }
-    }
-    let steps = parts.len();
+    let listed = elements(nodes, before, level, depth, parts)?;
     if ending(nodes, node, items.len(), end, level, depth, parts)? {
-        made = before.len();
-    } else if made == 0 {
+        link(nodes, before, level, parts)?;
+        return Ok(true);
+    }
+    if !listed.found {
         parts.truncate(start);
         parts.push(Part::Datum(node))?;
         return Ok(false);
-    } else {
-        parts.truncate(steps.saturating_sub(before.len() - made));
-        push_rest(node, made, parts)?;
     }
-    link(nodes, &before[..made], level, parts)?;
+    let steps = parts.len();
+    parts.truncate(steps.saturating_sub(listed.plain));
+    let made = before.len().saturating_sub(listed.plain);
+    push_rest(node, made, parts)?;
+    let Some(front) = before.get(..made) else {
+        return Err(AllocError);
+    };
+    link(nodes, front, level, parts)?;
     Ok(true)
+}
+
+/// Whether an expression stands in some items, and how many stand after the last one in which one does.
+#[derive(Clone, Copy)]
+struct Listed {
+    found: bool,
+    plain: usize,
+}
+
+/// Adds the steps of items of a list.
+#[cycle(template)]
+fn elements(
+    nodes: &[Node],
+    items: &[u32],
+    level: usize,
+    depth: usize,
+    parts: &mut Vec<Part>,
+) -> Result<Listed, AllocError>
+    ensures { IfOk result (λ listed. (ds : Items) → StandAll nodes.now items.now ds → Lists nodes.now listed.plain listed.found parts.old.items parts.new.items (in_items ds level)) }
+{
+    let mut listed = Listed {
+        found: false,
+        plain: 0,
+    };
+    let mut rest = items;
+    while let Some((first, others)) = rest.split_first() {
+        let found = element(nodes, *first, level, depth, parts)?;
+        listed = listed.and(found)?;
+        rest = others;
+    }
+    Ok(listed)
+}
+
+impl Listed {
+    /// The same with one item more.
+    fn and(self, found: bool) -> Result<Listed, AllocError>
+        ensures { IfOk result (λ listed. IsNext found self listed) }
+    {
+        if found {
+            return Ok(Listed {
+                found: true,
+                plain: 0,
+            });
+        }
+        let Some(plain) = self.plain.checked_add(1) else {
+            return Err(AllocError);
+        };
+        Ok(Listed {
+            found: self.found,
+            plain,
+        })
+    }
 }
 
 /// Adds the steps of an item of a list. An item in which no expression stands is one step.
@@ -162,22 +254,26 @@ fn element(
     level: usize,
     depth: usize,
     parts: &mut Vec<Part>,
-) -> Result<bool, AllocError> {
-    let Some((name, expr)) = spliced(nodes, item) else {
+) -> Result<bool, AllocError>
+    ensures { IfOk result (λ found. (d : Datum) → Stands nodes.now item d → Gives nodes.now found parts.old.items parts.new.items (in_item d level (evaluated d level))) }
+{
+    let Some((name, operand)) = spliced(nodes, item) else {
         return datum(nodes, item, level, depth, parts);
     };
-    if level == 0 {
-        parts.push(Part::Expr(expr))?;
-        return Ok(true);
-    }
-    if named(nodes, item, 2, (name, expr), level - 1, depth, parts)? {
+    let marked = Marked {
+        name,
+        operand,
+        node: item,
+        count: 2,
+    };
+    if unquoted(nodes, marked, level, depth, parts)? {
         return Ok(true);
     }
     parts.push(Part::Datum(item))?;
     Ok(false)
 }
 
-/// Adds the steps of a list's end, if an expression stands in it.
+/// Adds the steps of a list's end, if an expression stands in it. `count` is how many items the list has.
 #[cycle(template)]
 fn ending(
     nodes: &[Node],
@@ -187,64 +283,123 @@ fn ending(
     level: usize,
     depth: usize,
     parts: &mut Vec<Part>,
-) -> Result<bool, AllocError> {
+) -> Result<bool, AllocError>
+    ensures { IfOk result (λ found. (inside : ℕ → Items) → EndsIn nodes.now end inside → MayGive nodes.now found parts.old.items parts.new.items (inside level)) }
+{
     match end {
         End::Empty => Ok(false),
-        End::Tail(tail) => datum(nodes, tail, level, depth, parts),
-        End::Marked(Mark::Unquote, _, expr) if level == 0 => {
-            parts.push(Part::Expr(expr))?;
-            Ok(true)
-        }
+        End::Tail(tail) => inner(nodes, tail, level, depth, parts),
         End::Marked(Mark::Unquote, name, operand) => {
-            named(
-                nodes,
+            let marked = Marked {
+                name,
+                operand,
                 node,
                 count,
-                (name, operand),
-                level.saturating_sub(1),
-                depth,
-                parts,
-            )
+            };
+            unquoted(nodes, marked, level, depth, parts)
         }
         End::Marked(Mark::Quasiquote, name, operand) => {
-            named(
-                nodes,
+            let marked = Marked {
+                name,
+                operand,
                 node,
                 count,
-                (name, operand),
-                level.saturating_add(1),
-                depth,
-                parts,
-            )
+            };
+            quasiquoted(nodes, marked, level, depth, parts)
         }
     }
 }
 
-/// Adds the steps of the list of a mark's name and its operand at a level, if an expression stands in it.
-/// `count` is how many items the list has in which they are the last two.
-#[cycle(template)]
-fn named(
-    nodes: &[Node],
+/// A mark and its operand, which are the last two of so many items of a node.
+#[derive(Clone, Copy)]
+struct Marked {
+    name: u32,
+    operand: u32,
     node: u32,
     count: usize,
-    (name, operand): (u32, u32),
+}
+
+/// Adds the steps of what is unquoted: of an expression, or of the list of the mark's name and its operand at the
+/// level below, if an expression stands in it.
+#[cycle(template)]
+fn unquoted(
+    nodes: &[Node],
+    marked: Marked,
     level: usize,
     depth: usize,
     parts: &mut Vec<Part>,
-) -> Result<bool, AllocError> {
+) -> Result<bool, AllocError>
+    ensures { IfOk result (λ found. (e : Datum) → Stands nodes.now marked.operand e → MayGive nodes.now found parts.old.items parts.new.items (unquoted_at level e (evaluated e))) }
+{
+    if level == 0 {
+        parts.push(Part::Expr(marked.operand))?;
+        return Ok(true);
+    }
+    named(nodes, marked, level - 1, depth, parts)
+}
+
+/// Adds the steps of the list of a further quasiquote's name and its operand, if an expression stands in it.
+#[cycle(template)]
+fn quasiquoted(
+    nodes: &[Node],
+    marked: Marked,
+    level: usize,
+    depth: usize,
+    parts: &mut Vec<Part>,
+) -> Result<bool, AllocError>
+    ensures { IfOk result (λ found. (e : Datum) → Stands nodes.now marked.operand e → MayGive nodes.now found parts.old.items parts.new.items (evaluated e (suc level))) }
+{
+    let Some(further) = level.checked_add(1) else {
+        return Err(AllocError);
+    };
+    named(nodes, marked, further, depth, parts)
+}
+
+/// Adds the steps of the list of a mark's name and its operand at a level, if an expression stands in it.
+#[cycle(template)]
+fn named(
+    nodes: &[Node],
+    marked: Marked,
+    level: usize,
+    depth: usize,
+    parts: &mut Vec<Part>,
+) -> Result<bool, AllocError>
+    ensures { IfOk result (λ found. (e : Datum) → Stands nodes.now marked.operand e → MayGive nodes.now found parts.old.items parts.new.items (evaluated e level)) }
+{
     let start = parts.len();
-    parts.push(Part::Datum(name))?;
-    if !datum(nodes, operand, level, depth, parts)? {
+    parts.push(Part::Datum(marked.name))?;
+    if !inner(nodes, marked.operand, level, depth, parts)? {
         parts.truncate(start);
         return Ok(false);
     }
-    push_rest(node, count, parts)?;
+    push_rest(marked.node, marked.count, parts)?;
     parts.extend_from_slice(&[Part::Cons, Part::Cons])?;
     Ok(true)
 }
 
+/// Adds the steps of a datum at a level, if an expression stands in it.
+#[cycle(template)]
+fn inner(
+    nodes: &[Node],
+    id: u32,
+    level: usize,
+    depth: usize,
+    parts: &mut Vec<Part>,
+) -> Result<bool, AllocError>
+    ensures { IfOk result (λ found. (d : Datum) → Stands nodes.now id d → MayGive nodes.now found parts.old.items parts.new.items (evaluated d level)) }
+{
+    let start = parts.len();
+    if datum(nodes, id, level, depth, parts)? {
+        return Ok(true);
+    }
+    parts.truncate(start);
+    Ok(false)
+}
+
 /// Adds the list of what a node has from an index on.
-fn push_rest(node: u32, from: usize, parts: &mut Vec<Part>) -> Result<(), AllocError> {
+fn push_rest(node: u32, from: usize, parts: &mut Vec<Part>) -> Result<(), AllocError>
+    ensures { OnOk result ((nodes : Seq Kept) → Puts nodes parts.old.items parts.new.items none) }
+{
     let Ok(from) = u32::try_from(from) else {
         return Err(AllocError);
     };
@@ -258,13 +413,23 @@ fn link(
     items: &[u32],
     level: usize,
     parts: &mut Vec<Part>,
-) -> Result<(), AllocError> {
-    for last in items.iter().rev() {
-        let part = match spliced(nodes, *last) {
-            Some(_) if level == 0 => Part::Join,
-            _ => Part::Cons,
-        };
-        parts.push(part)?;
+) -> Result<(), AllocError>
+    ensures { OnOk result ((kept : Seq Kept) → Puts kept parts.old.items parts.new.items none) }
+{
+    let mut rest = items;
+    while let Some((last, others)) = rest.split_last() {
+        parts.push(linking(nodes, *last, level))?;
+        rest = others;
     }
     Ok(())
+}
+
+/// The step that puts an item before a list.
+fn linking(nodes: &[Node], item: u32, level: usize) -> Part
+    ensures { exprs_in (result ∷ []) ≡ [] }
+{
+    match spliced(nodes, item) {
+        Some(_) if level == 0 => Part::Join,
+        _ => Part::Cons,
+    }
 }
