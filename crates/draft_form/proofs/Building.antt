@@ -11,7 +11,7 @@ use Rattle.core_form.specs.Trees.{Tree, Const, Ref, Lambda, If, Set, Call, Prim,
 
 -- Nodes stay when others are added
 
-get_append : {A : Type 0} (xs ys : List A) (i : ℕ) (x : A) → slice_get xs i ≡ Some x → slice_get (xs ++ ys) i ≡ Some x
+pub get_append : {A : Type 0} (xs ys : List A) (i : ℕ) (x : A) → slice_get xs i ≡ Some x → slice_get (xs ++ ys) i ≡ Some x
 get_append [] ys i x h = absurd (none_some x h)
   where
     none_some : {A : Type 0} (x : A) → None ≡ Some x → ⊥

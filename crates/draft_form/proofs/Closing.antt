@@ -15,12 +15,12 @@ use Rattle.draft_form.proofs.Building.{stays, all_stay}
 use Rattle.draft_form.proofs.Ends.{got_last}
 use Rattle.draft_form.proofs.Reversed.{reversed_last}
 
-last_same : (xs ys : List ℕ) (x y : ℕ) → xs ++ x ∷ [] ≡ ys ++ y ∷ [] → (xs ≡ ys) × (x ≡ y)
+pub last_same : (xs ys : List ℕ) (x y : ℕ) → xs ++ x ∷ [] ≡ ys ++ y ∷ [] → (xs ≡ ys) × (x ≡ y)
 last_same xs ys x y e =
     let r : x ∷ reverse xs ≡ y ∷ reverse ys = sym (reversed_last xs x) ∙ (ap reverse e ∙ reversed_last ys y) in
     (sym (reverse-reverse xs) ∙ (ap reverse (same_tail x y (reverse xs) (reverse ys) r) ∙ reverse-reverse ys), same_head x y (reverse xs) (reverse ys) r)
 
-one_done : (exprs : List (Node Var)) (ids others : List ℕ) (id : ℕ) (d : Tree Var) (ds : List (Tree Var)) → AreDone exprs ids (d ∷ ds)
+pub one_done : (exprs : List (Node Var)) (ids others : List ℕ) (id : ℕ) (d : Tree Var) (ds : List (Tree Var)) → AreDone exprs ids (d ∷ ds)
     → ids ≡ others ++ id ∷ [] → Stands exprs id d × AreDone exprs others ds
 one_done exprs ids others id d ds h e =
     let same = last_same h.0 others h.1 id (sym h.2 ∙ e) in
@@ -40,10 +40,10 @@ all_done exprs (tree.item d es) (id ∷ ids) others whole ds h e n =
     ((id, ids, refl, q.0, r.0), q.1)
 
 -- the expression that is added
-abbrev with_one : List (Node Var) → What Var → Pos → List (Node Var)
+abbrev pub with_one : List (Node Var) → What Var → Pos → List (Node Var)
 with_one exprs what p = exprs ++ record { what = what; pos = p } ∷ []
 
-is_added : (exprs : List (Node Var)) (what other : What Var) (p : Pos) → what ≡ other → IsNode (with_one exprs what p) (length exprs) other p
+pub is_added : (exprs : List (Node Var)) (what other : What Var) (p : Pos) → what ≡ other → IsNode (with_one exprs what p) (length exprs) other p
 is_added exprs what other p e =
     got_last exprs (record { what = what; pos = p }) [] ∙ ap (λ x. Some (record { what = x; pos = p })) e
 

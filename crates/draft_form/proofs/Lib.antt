@@ -1,11 +1,16 @@
 pub mod Building
 pub mod Closing
+pub mod DraftsMade
+pub mod DraftsStay
 pub mod Ends
+pub mod FormsNumbered
 pub mod FreshAreBound
 pub mod Laying
 pub mod LevelsGiven
 pub mod LiteralsAdded
 pub mod Ready
 pub mod Reversed
+pub mod SameConstant
+pub mod VisitsLead
 pub mod Walking
 pub mod WrittenStays

@@ -26,10 +26,10 @@ use Rattle.draft_form.proofs.Laying.{laid_list-length, constants-append}
 
 -- Literals behind others
 
-no_more : (i : ℕ) → i ≡ i + 0
+pub no_more : (i : ℕ) → i ≡ i + 0
 no_more i = omega arith
 
-sum : (i n m : ℕ) → (i + n) + m ≡ i + (n + m)
+pub sum : (i n m : ℕ) → (i + n) + m ≡ i + (n + m)
 sum i n m = omega arith
 
 laid_list-append : (i : ℕ) (cs ds : List Constant) → laid_list i (cs ++ ds) ≡ laid_list i cs ++ laid_list (i + all_sizes cs) ds
@@ -46,7 +46,7 @@ literals-length s lits found =
     length-append lits (laid_list (length lits) (constants s found))
     ∙ ap (λ n. length lits + n) (laid_list-length (length lits) (constants s found))
 
-literals-append : (s : Constant) (lits : List Lit) (ps qs : List Part)
+pub literals-append : (s : Constant) (lits : List Lit) (ps qs : List Part)
     → with_literals s lits (ps ++ qs) ≡ with_literals s (with_literals s lits ps) qs
 literals-append s lits ps qs =
     let n : ℕ = length lits in
@@ -57,7 +57,7 @@ literals-append s lits ps qs =
     ∙ (sym (append_assoc lits (laid_list n first) (laid_list (n + all_sizes first) second))
     ∙ ap (λ k. with_literals s lits ps ++ laid_list k second) (sym (literals-length s lits ps))))
 
-at_after : (s : Constant) (lits : List Lit) (n : ℕ) (e : Draft)
+pub at_after : (s : Constant) (lits : List Lit) (n : ℕ) (e : Draft)
     → after s (at_of lits n) e ≡ at_of (with_literals s lits (parts e)) (n + bound_fresh e)
 at_after s lits n e =
     let A : ℕ → At = λ k. record { literals = k; fresh = n + bound_fresh e } in ap A (sym (literals-length s lits (parts e)))
@@ -69,7 +69,7 @@ at_after_all s lits n es =
 
 -- Visits
 
-moved : (w : Walk) (vs : List Visit) (g : Given) (lits lits2 : List Lit) (n n2 : ℕ) (ds ds2 : List (Tree Var)) → lits ≡ lits2 → n ≡ n2
+pub moved : (w : Walk) (vs : List Visit) (g : Given) (lits lits2 : List Lit) (n n2 : ℕ) (ds ds2 : List (Tree Var)) → lits ≡ lits2 → n ≡ n2
     → ds ≡ ds2 → Expects w vs g lits n ds → Expects w vs g lits2 n2 ds2
 moved w vs g lits lits2 n n2 ds ds2 a b c h =
     let P : List Lit → Type 0 = λ l. Expects w vs g l n ds in
@@ -77,7 +77,7 @@ moved w vs g lits lits2 n n2 ds ds2 a b c h =
     let R : List (Tree Var) → Type 0 = λ d. Expects w vs g lits2 n2 d in
     subst R c (subst Q b (subst P a h))
 
-abbrev begins : List ℕ → List Visit
+abbrev pub begins : List ℕ → List Visit
 begins [] = []
 begins (id ∷ ids) = Begin id ∷ begins ids
 
@@ -285,7 +285,7 @@ IsCompound (form.Const k) = ⊥
 IsCompound (form.Ref v) = ⊥
 IsCompound what = Unit {0}
 
-same_what : (nodes : List (Node Variable)) (id : ℕ) (what other : What Variable) (p q : Pos) → IsNode nodes id what p → IsNode nodes id other q
+pub same_what : (nodes : List (Node Variable)) (id : ℕ) (what other : What Variable) (p q : Pos) → IsNode nodes id what p → IsNode nodes id other q
     → other ≡ what
 same_what nodes id what other p q h k =
     ap (λ n. n.what) (same_item (slice_get nodes id) (record { what = other; pos = q }) (record { what = what; pos = p }) k h)

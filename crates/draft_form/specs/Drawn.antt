@@ -13,6 +13,13 @@ use Rattle.draft_form.specs.declared.draft.Variable.TheVariants as variable
 use Rattle.draft_form.specs.Drafts.{Name, Draft, Drafts, Local, Fresh, Top, Library, Const, Symbols, Ref, Lambda, If, Set, Call, Prim, Seq, Fix, Define, none, item}
 use Rattle.draft_form.specs.Quoted.{IsHeld}
 
+-- the names of words by their numbers, and the data that constants are parts of
+abbrev pub Names : Type 0
+Names = List (Bor (List ℕ))
+
+abbrev pub Data : Type 0
+Data = List DatumNode
+
 -- Names
 
 abbrev pub name_or_none : Option (Bor (List ℕ)) → List ℕ

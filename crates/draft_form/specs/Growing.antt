@@ -1,5 +1,8 @@
 -- A core that is being made.
-use Rattle.std.specs.Prelude.{ℕ, ◌≡◌, List, ◌++◌}
+use Rattle.std.specs.Prelude.{ℕ, ◌≡◌, List, [], ◌∷◌, ◌++◌, length}
+use Rattle.scheme_base.specs.declared.pos.Pos.{Pos}
+use Rattle.core_form.specs.declared.program.Var.{Var}
+use Rattle.core_form.specs.declared.program.What.{What}
 use Rattle.draft_form.specs.declared.growing.Growing.{Growing}
 use Rattle.draft_form.specs.Written.{AreWritten}
 
@@ -14,3 +17,25 @@ pub record Takes (before after : Growing) (ids : List ℕ) : Type 0 where
   pub lits : after.lits.items ≡ before.lits.items
   pub forms : after.forms ≡ before.forms
   pub done : before.done.items ≡ after.done.items ++ ids
+
+-- an expression is added, and is done
+pub record AddsNode (before after : Growing) (what : What Var) (p : Pos) : Type 0 where
+  pub exprs : after.exprs ≡ before.exprs ++ record { what = what; pos = p } ∷ []
+  pub lits : after.lits.items ≡ before.lits.items
+  pub forms : after.forms ≡ before.forms
+  pub done : after.done.items ≡ before.done.items ++ length before.exprs ∷ []
+
+-- the last expression is a form
+pub record AddsForm (before after : Growing) : Type 0 where
+  pub exprs : after.exprs ≡ before.exprs
+  pub lits : after.lits.items ≡ before.lits.items
+  pub form : ℕ
+  pub done : before.done.items ≡ after.done.items ++ form ∷ []
+  pub forms : after.forms ≡ before.forms ++ form ∷ []
+
+-- nothing is there yet
+pub record IsEmpty (g : Growing) : Type 0 where
+  pub exprs : g.exprs ≡ []
+  pub lits : g.lits.items ≡ []
+  pub forms : g.forms ≡ []
+  pub done : g.done.items ≡ []

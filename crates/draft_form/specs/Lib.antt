@@ -1,6 +1,8 @@
 pub mod Drafts
 pub mod Drawn
 pub mod Growing
+pub mod Made
+pub mod Numbered
 pub mod Numbering
 pub mod Numbers
 pub mod Parts

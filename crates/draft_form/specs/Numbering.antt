@@ -19,12 +19,13 @@ use Rattle.draft_form.specs.declared.growing.Growing.{Growing}
 use Rattle.draft_form.specs.declared.level.Levels.{Levels}
 use Rattle.draft_form.specs.declared.level.Visit.{Visit}
 use Rattle.draft_form.specs.declared.level.Visit.TheVariants.{Begin, End, Restore}
+use Rattle.draft_form.specs.declared.number.Text.{Text}
 use Rattle.draft_form.specs.Drafts.{Draft, Part, parts}
-use Rattle.draft_form.specs.Drawn.{Drawn, name_of}
+use Rattle.draft_form.specs.Drawn.{Drawn, name_of, word_name}
 use Rattle.draft_form.specs.Growing.{Takes}
 use Rattle.draft_form.specs.Numbers.{Given, At, give, give_all, named, fresh_in, bound_fresh, constants, laid_list, numbered}
 use Rattle.draft_form.specs.Parts.{bound_in, ids_in}
-use Rattle.draft_form.specs.Quoted.{AddsHeld}
+use Rattle.draft_form.specs.Quoted.{AddsHeld, symbol_list}
 
 -- The numbers of levels
 
@@ -104,6 +105,10 @@ AreDone exprs ids (d ∷ ds) =
 
 -- Walks through drafts
 
+-- the list of the core's symbols
+abbrev pub symbols_of : Text → Constant
+symbols_of text = symbol_list (map (word_name text.words.now) text.symbols.now)
+
 -- the literals with those of these parts behind them
 abbrev pub with_literals : Constant → List Lit → List Part → List Lit
 with_literals symbols lits found = lits ++ laid_list (length lits) (constants symbols found)
@@ -123,6 +128,31 @@ pub record Walk : Type 0 where
   pub lits : List Lit
   pub fresh : ℕ
   pub done : List (Tree Var)
+
+-- what was there before a walk, and the end
+pub record Course : Type 0 where
+  pub exprs : List (Node Var)
+  pub forms : List ℕ
+  pub given : Given
+  pub lits : List Lit
+  pub fresh : ℕ
+  pub done : List (Tree Var)
+
+-- a walk through the drafts of a text
+abbrev pub walk : Text → Course → Walk
+walk text c =
+    record {
+      words = text.words.now;
+      nodes = text.nodes.now;
+      table = text.drafts.now;
+      symbols = symbols_of text;
+      exprs = c.exprs;
+      forms = c.forms;
+      given = c.given;
+      lits = c.lits;
+      fresh = c.fresh;
+      done = c.done;
+    }
 
 abbrev pub Expects : Walk → List Visit → Given → List Lit → ℕ → List (Tree Var) → Type 0
 Expects w [] g lits n ds = ((level : ℕ) → g level ≡ w.given level) × (lits ≡ w.lits) × (n ≡ w.fresh) × (ds ≡ w.done)

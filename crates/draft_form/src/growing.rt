@@ -3,7 +3,7 @@
 ghost use Rattle.std.specs.Prelude.{◌≡◌, [], ◌∷◌, length, OnOk, IfOk};
 ghost use Rattle.core_form.specs.Text.{HasText};
 ghost use Rattle.draft_form.specs.Written.{HasParts};
-ghost use Rattle.draft_form.specs.Growing.{IsReady, Takes};
+ghost use Rattle.draft_form.specs.Growing.{AddsForm, AddsNode, IsEmpty, IsReady, Takes};
 
 use crate::literal::number;
 use core_form::{Core, Expr, Exprs, Var, What};
@@ -22,7 +22,8 @@ pub struct Growing {
 
 impl Growing {
     pub fn new(alloc: Global) -> Growing
-        ensures { IsReady result }
+        ensures ready { IsReady result }
+        ensures empty { IsEmpty result }
     {
         Growing {
             exprs: List::new(alloc),
@@ -34,7 +35,8 @@ impl Growing {
 
     /// Adds an expression whose parts are done.
     pub fn add(&mut self, what: What<Var>, pos: Pos) -> Result<(), AllocError>
-        ensures { OnOk result (IsReady self.old → HasParts self.old.exprs self.old.lits.items what → IsReady self.new) }
+        ensures ready { OnOk result (IsReady self.old → HasParts self.old.exprs self.old.lits.items what → IsReady self.new) }
+        ensures added { OnOk result (AddsNode self.old self.new what pos) }
     {
         let id = number(self.exprs.len())?;
         self.exprs.push(Expr { what, pos })?;
@@ -67,7 +69,8 @@ impl Growing {
 
     /// Makes the expression that was done last a form.
     pub fn add_form(&mut self) -> Result<(), AllocError>
-        ensures { OnOk result (IsReady self.old → IsReady self.new) }
+        ensures ready { OnOk result (IsReady self.old → IsReady self.new) }
+        ensures added { OnOk result (AddsForm self.old self.new) }
     {
         let form = self.take()?;
         self.forms.push(form)?;
@@ -75,7 +78,10 @@ impl Growing {
     }
 
     pub fn into_core(self) -> Core
-        ensures { IsReady self → HasText result }
+        ensures text { IsReady self → HasText result }
+        ensures exprs { result.exprs ≡ self.exprs }
+        ensures forms { result.forms ≡ self.forms }
+        ensures lits { result.lits ≡ self.lits.items }
     {
         Core {
             exprs: self.exprs,

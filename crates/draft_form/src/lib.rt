@@ -7,7 +7,9 @@
 //!
 //! `specs/Drafts` has the trees, and `specs/Numbers` says which core they are: the literals in order, each before its
 //! parts, and the k-th fresh variable `.k`. `specs/Drawn` says which draft a number in a table stands for.
-//! `draft` is the table in which drafts are made; `number`, `level`, `growing` and `literal` make the core.
+//! `draft` is the table in which drafts are made: each of its calls says which draft a new number stands for, and that
+//! all others still stand for theirs. `number`, `level`, `growing` and `literal` make the core: `Text::add_form` says that
+//! the forms that are there, with one more, are the numbered drafts (`specs/Numbered`).
 #![tactic(auto)]
 
 mod draft;

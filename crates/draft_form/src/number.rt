@@ -5,11 +5,13 @@ ghost use Rattle.std.specs.Borrow.{Bor};
 ghost use Rattle.std.specs.Fmt.{decimal};
 ghost use Rattle.std.specs.Option.{option_map};
 ghost use Rattle.core_form.specs.declared.program.What.TheVariants.{If};
-ghost use Rattle.draft_form.specs.declared.level.Visit.TheVariants.{Begin};
-ghost use Rattle.draft_form.specs.Drawn.{word_name};
+ghost use Rattle.draft_form.specs.declared.level.Visit.TheVariants.{Begin, End};
+ghost use Rattle.draft_form.specs.Drafts.{Draft as Tree, Drafts as Forms, none, item, ◌then◌};
+ghost use Rattle.draft_form.specs.Drawn.{Drawn, word_name};
 ghost use Rattle.draft_form.specs.Growing.{IsReady, Takes};
 ghost use Rattle.draft_form.specs.Numbers.{Given, var};
-ghost use Rattle.draft_form.specs.Numbering.{number_in, var_of, Closes, AddsLiteral, Gives, NumbersAll, Opens};
+ghost use Rattle.draft_form.specs.Numbered.{HasNumbered};
+ghost use Rattle.draft_form.specs.Numbering.{number_in, symbols_of, var_of, walk, AddsLiteral, Closes, Course, Gives, Goes, NumbersAll, Opens};
 ghost use Rattle.draft_form.specs.Parts.{bound_in, ids_in};
 ghost use Rattle.draft_form.specs.Quoted.{symbol_list};
 
@@ -45,7 +47,8 @@ impl Text<'_> {
         levels: &mut Levels,
         growing: &mut Growing,
     ) -> Result<(), AllocError>
-        ensures { OnOk result (IsReady growing.old → IsReady growing.new) }
+        ensures ready { OnOk result (IsReady growing.old → IsReady growing.new) }
+        ensures numbered { OnOk result ((es : Forms) (e : Tree) → HasNumbered (symbols_of self.now) es levels.old growing.old → Drawn self.now.words.now self.now.nodes.now self.now.drafts.now form e → HasNumbered (symbols_of self.now) (es then item e none) levels.new growing.new) }
     {
         let mut visits = Vec::new(self.alloc);
         visits.push(Visit::Begin(form))?;
@@ -65,7 +68,8 @@ impl Text<'_> {
         visits: &mut Vec<Visit>,
         growing: &mut Growing,
     ) -> Result<(), AllocError>
-        ensures { OnOk result (IsReady growing.old → IsReady growing.new) }
+        ensures ready { OnOk result (IsReady growing.old → IsReady growing.new) }
+        ensures goes { OnOk result ((c : Course) → Goes (walk self.now c) (visits.old.items ++ visit ∷ []) levels.old growing.old → Goes (walk self.now c) visits.new.items levels.new growing.new) }
     {
         match visit {
             Visit::Begin(id) => self.begin(id, levels, visits, growing),
@@ -82,7 +86,8 @@ impl Text<'_> {
         visits: &mut Vec<Visit>,
         growing: &mut Growing,
     ) -> Result<(), AllocError>
-        ensures { OnOk result (IsReady growing.old → IsReady growing.new) }
+        ensures ready { OnOk result (IsReady growing.old → IsReady growing.new) }
+        ensures goes { OnOk result ((c : Course) → Goes (walk self.now c) (visits.old.items ++ Begin id ∷ []) levels.old growing.old → Goes (walk self.now c) visits.new.items levels.new growing.new) }
     {
         let draft = self.draft(id)?;
         match &draft.what {
@@ -124,7 +129,8 @@ impl Text<'_> {
 
     /// Adds an expression whose parts were done last.
     fn end(&self, id: u32, levels: &Levels, growing: &mut Growing) -> Result<(), AllocError>
-        ensures { OnOk result (IsReady growing.old → IsReady growing.new) }
+        ensures ready { OnOk result (IsReady growing.old → IsReady growing.new) }
+        ensures goes { OnOk result ((c : Course) (visits : List Visit) → Goes (walk self.now c) (visits ++ End id ∷ []) levels.now growing.old → Goes (walk self.now c) visits levels.now growing.new) }
     {
         let draft = self.draft(id)?;
         let what = self.closed(&draft.what, levels, growing)?;
