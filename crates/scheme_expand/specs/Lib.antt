@@ -6,4 +6,11 @@ pub mod Programs
 pub mod Rewriting
 pub mod Calls
 pub mod Faults
+pub mod Naming
 pub mod Noted
+pub mod Shapes
+pub mod Waiting
+pub mod Assembled
+pub mod Order
+pub mod ByWord
+pub mod Symbols

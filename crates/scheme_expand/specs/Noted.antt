@@ -1,11 +1,11 @@
 -- The fault that an expansion has noted, and what its names mean.
-use Rattle.std.specs.Prelude.{ℕ, Option, Some, None, Bool, true}
+use Rattle.std.specs.Prelude.{ℕ, ◌≡◌, List, [], Option, Some, None, Result, Ok, Err, Bool, true}
 use Rattle.scheme_expand.specs.declared.fault.Fault.{Fault as Noted}
 use Rattle.scheme_expand.specs.declared.fault.Rule.{Rule}
 use Rattle.scheme_expand.specs.declared.fault.Rule.TheVariants as rule
 use Rattle.draft_form.specs.declared.draft.Variable.{Variable}
 use Rattle.draft_form.specs.declared.draft.Variable.TheVariants.{Local, Top, Library}
-use Rattle.scheme_expand.specs.Faults.{Fault, fault}
+use Rattle.scheme_expand.specs.Faults.{Fault, fault, least}
 
 abbrev pub number_of : Rule → ℕ
 number_of rule.Keyword = 1
@@ -31,6 +31,11 @@ fault_of f = fault f.pos (number_of f.rule)
 abbrev pub noted : Option Noted → Option Fault
 noted None = None
 noted (Some f) = Some (fault_of f)
+
+-- the fault of some data that is noted, or what they come to where they have none
+abbrev pub IsLeast : {A : Type 0} → List Fault → Result A Noted → Type 0
+IsLeast fs (Ok a) = fs ≡ []
+IsLeast fs (Err f) = least fs ≡ Some (fault_of f)
 
 -- the level of the innermost variable of a name, where names are looked up in a table of them
 abbrev pub level_in : Option (Option ℕ) → Option ℕ

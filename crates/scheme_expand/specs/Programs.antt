@@ -220,3 +220,9 @@ abbrev pub Answers : Items → Result (Program Var) FormErr → Type 0
 Answers ds (Ok core) = Expands ds core
 Answers ds (Err (Broken p n)) = FormFault ds p n
 Answers ds (Err NoMemory) = Unit {0}
+
+-- what is answered is so, as far as it is a fault: the fault of the data, or else they have none
+abbrev pub HasFault : Items → Result (Program Var) FormErr → Type 0
+HasFault ds (Ok core) = faults ds ≡ []
+HasFault ds (Err (Broken p n)) = FormFault ds p n
+HasFault ds (Err NoMemory) = Unit {0}

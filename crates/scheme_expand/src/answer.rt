@@ -1,7 +1,12 @@
 //! The core of a program's data: the public call.
 
 ghost use Rattle.std.specs.Prelude.{IfOk};
+ghost use Rattle.datum_form.specs.Data.{Items};
+ghost use Rattle.datum_form.specs.Stands.{Holds};
 ghost use Rattle.core_form.specs.Text.{HasText};
+ghost use Rattle.scheme_expand.specs.Noted.{IsLeast};
+ghost use Rattle.scheme_expand.specs.Programs.{HasFault, faults};
+ghost use Rattle.scheme_expand.specs.Waiting.{ReadAll};
 
 use crate::assemble::{Expanded, Whole};
 use crate::body::read_definition;
@@ -18,8 +23,11 @@ use scheme_base::Pos;
 use std::alloc::{AllocError, Global};
 
 /// The core of a program's data, or its first broken form.
+///
+/// The fault is the least of the broken forms: the first in place, and there the one of the least rule.
 pub fn expand(alloc: Global, datums: &Datums) -> Result<Core, FormErr>
-    ensures { IfOk result HasText }
+    ensures text { IfOk result HasText }
+    ensures fault { (ds : Items) → Holds datums.now ds → HasFault ds result }
 {
     let Ok(library) = read_program(alloc, library().as_bytes()) else {
         return Err(FormErr::NoMemory);
@@ -74,7 +82,8 @@ fn answer<'a>(
     library: &'a Datums,
     program: &'a Datums,
 ) -> Result<Result<Core, Fault>, AllocError>
-    ensures { IfOk result (λ answer. IfOk answer HasText) }
+    ensures text { IfOk result (λ answer. IfOk answer HasText) }
+    ensures fault { IfOk result (λ answer. (ds : Items) → Holds program.now ds → IsLeast (faults ds) answer) }
 {
     let library_nodes = library.nodes.as_slice();
     let program_nodes = program.nodes.as_slice();
@@ -100,7 +109,8 @@ fn core_of(
     program: Source,
     tops: &[u32],
 ) -> Result<Result<Core, Fault>, AllocError>
-    ensures { IfOk result (λ answer. IfOk answer HasText) }
+    ensures text { IfOk result (λ answer. IfOk answer HasText) }
+    ensures fault { IfOk result (λ answer. (ds : Items) → ReadAll program.entry tops.now ds → IsLeast (faults ds) answer) }
 {
     let texts = Texts {
         words,
@@ -161,23 +171,32 @@ fn expand_program(
     texts: &Texts,
     public: &[bool],
     tops: &[u32],
-) -> Result<Result<Program, Fault>, AllocError> {
+) -> Result<Result<Program, Fault>, AllocError>
+    ensures { IfOk result (λ answer. (ds : Items) → ReadAll texts.now.program tops.now ds → IsLeast (faults ds) answer) }
+{
     let mut expander = Expander::new(alloc, texts.program, texts.words.helpers, public)?;
     let forms = expander.forms(tops)?;
-    if let Some(fault) = expander.fault {
-        return Ok(Err(fault));
+    match expander.fault {
+        Some(fault) => return Ok(Err(fault)),
+        None => {}
     }
     let own = expander.changed;
     if !own.iter().any(|is_own| *is_own) {
-        let drafts = expander.drafts;
-        let forms = Forms { drafts, forms };
+        let maker = expander.maker;
+        let forms = Forms {
+            drafts: maker.drafts,
+            forms,
+        };
         return Ok(Ok(Program { forms, own }));
     }
     let others = without(alloc, public, &own)?;
     let mut expander = Expander::new(alloc, texts.program, texts.words.helpers, &others)?;
     let forms = expander.forms(tops)?;
-    let drafts = expander.drafts;
-    let forms = Forms { drafts, forms };
+    let maker = expander.maker;
+    let forms = Forms {
+        drafts: maker.drafts,
+        forms,
+    };
     Ok(Ok(Program { forms, own }))
 }
 
@@ -202,8 +221,11 @@ fn expand_library(alloc: Global, texts: &Texts, tops: &[u32]) -> Result<Forms, A
         expander.move_to(Pos { line: 0, col });
         forms.push(expander.definition(*top)?)?;
     }
-    let drafts = expander.drafts;
-    Ok(Forms { drafts, forms })
+    let maker = expander.maker;
+    Ok(Forms {
+        drafts: maker.drafts,
+        forms,
+    })
 }
 
 /// By name, whether it is public: a name of the library that does not begin with `%`.

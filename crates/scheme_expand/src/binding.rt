@@ -1,13 +1,24 @@
 //! The forms that bind variables (R4RS 4.2.2 and 4.2.4).
 
+ghost use Rattle.std.specs.Prelude.{◌≡◌, ◌++◌, ◌∷◌, [], None, OnOk, IfOk, MatchOption, true, false};
+ghost use Rattle.datum_form.specs.Data.{Datum, Items};
+ghost use Rattle.datum_form.specs.Data.Items.{item};
+ghost use Rattle.scheme_expand.specs.Forms.{Word, Exp, Bindings as Bound, Steps};
+ghost use Rattle.quasi_expand.specs.Shapes.{all_items, is_list_of, is_step};
+ghost use Rattle.scheme_expand.specs.Grammar.{bindings as bindings_in, twice as some_twice, is_binding, checked, let_form, do_form, step_list, expr as expression, exprs as all_exprs};
+ghost use Rattle.scheme_expand.specs.Faults.{least, in_exp, in_exps, in_steps};
+ghost use Rattle.scheme_expand.specs.Waiting.{Reads, ReadAll, Adds, Keeps, named_datum};
+ghost use Rattle.scheme_expand.specs.Shapes.{IsPair, AreBindings, AreBound, together_words, bound_checks, bound_form, named_form, AreTurns, those};
+
 use crate::body::{Body, read_body};
 use crate::expander::Expander;
 use crate::fault::Rule;
+use crate::formals::twice;
 use crate::source::Source;
 use crate::step::Step;
 use crate::words::Keyword;
 use draft_form::Variable;
-use quasi_expand::{DoBinding, do_binding, read_do};
+use quasi_expand::{DoLoop, do_binding, read_do};
 use scheme_base::Pos;
 use std::alloc::{AllocError, Global};
 
@@ -19,23 +30,54 @@ struct Bindings {
 }
 
 /// The bindings of a `let`, if each is a list of a name and an expression.
-fn read_bindings(alloc: Global, source: Source, id: u32) -> Result<Option<Bindings>, AllocError> {
+fn read_bindings(alloc: Global, source: Source, id: u32) -> Result<Option<Bindings>, AllocError>
+    ensures { IfOk result (λ found. (d : Datum) → Reads source.entry id d → MatchOption found (is_list_of is_binding d ≡ false) (λ pairs. (is_list_of is_binding d ≡ true) × AreBindings source.entry pairs (bindings_in d))) }
+{
     let mut names = Vec::new(alloc);
     let mut values = Vec::new(alloc);
     let Some(bindings) = source.list(id) else {
         return Ok(None);
     };
-    for binding in bindings {
-        let Some([name, value]) = source.list(*binding) else {
+    let mut rest = bindings;
+    while let Some((first, others)) = rest.split_first() {
+        let Some((name, value)) = read_binding(source, *first) else {
             return Ok(None);
         };
-        if source.word(*name).is_none() {
-            return Ok(None);
-        }
-        names.push(*name)?;
-        values.push(*value)?;
+        names.push(name)?;
+        values.push(value)?;
+        rest = others;
     }
     Ok(Some(Bindings { names, values }))
+}
+
+/// The name and the expression of a binding, if it is one.
+fn read_binding(source: Source, id: u32) -> Option<(u32, u32)>
+    ensures { (d : Datum) → Reads source.entry id d → MatchOption result (is_binding d ≡ false) (λ pair. IsPair source.entry pair.0 pair.1 d) }
+{
+    let Some(items) = source.list(id) else {
+        return None;
+    };
+    let [name, value] = items else {
+        return None;
+    };
+    source.word(*name)?;
+    Some((*name, *value))
+}
+
+/// Whether a name is bound twice by bindings that bind together.
+fn bound_twice(
+    alloc: Global,
+    source: Source,
+    bindings: &Bindings,
+    together: bool,
+) -> Result<bool, AllocError>
+    ensures { IfOk result (λ found. (bs : Bound) → AreBindings source.entry bindings.now bs → found ≡ some_twice (together_words together bs)) }
+{
+    if together {
+        twice(alloc, source, &bindings.names)
+    } else {
+        Ok(false)
+    }
 }
 
 impl<'a> Expander<'a> {
@@ -46,7 +88,9 @@ impl<'a> Expander<'a> {
         pos: Pos,
         operands: &'a [u32],
         together: bool,
-    ) -> Result<Option<(Bindings, Body<'a>)>, AllocError> {
+    ) -> Result<Option<(Bindings, Body<'a>)>, AllocError>
+        ensures { IfOk result (λ found. (ds : Items) → ReadAll self.old.source operands.now ds → MatchOption found ((e : Exp) → Adds self.old self.new (least (in_exp (checked pos (bound_checks together ds) e)))) (λ bound. Keeps self.old self.new × AreBound self.old.source together ds bound.0 bound.1)) }
+    {
         let Some((bindings, body)) = operands.split_first() else {
             self.broken(pos, Rule::Body)?;
             return Ok(None);
@@ -59,7 +103,11 @@ impl<'a> Expander<'a> {
             self.broken(pos, Rule::Bindings)?;
             return Ok(None);
         };
-        if (together && self.twice(&bindings.names)?) || self.twice(&body.names)? {
+        if bound_twice(self.alloc, self.source, &bindings, together)? {
+            self.broken(pos, Rule::Twice)?;
+            return Ok(None);
+        }
+        if twice(self.alloc, self.source, &body.names)? {
             self.broken(pos, Rule::Twice)?;
             return Ok(None);
         }
@@ -67,91 +115,134 @@ impl<'a> Expander<'a> {
     }
 
     /// Expressions, one after another.
-    fn push_exprs(&mut self, exprs: &[u32]) -> Result<(), AllocError> {
-        for last in exprs.iter().rev() {
-            self.steps.push(Step::Expr(*last))?;
+    fn push_exprs(&mut self, exprs: &[u32]) -> Result<(), AllocError>
+        ensures { OnOk result ((ds : Items) → ReadAll self.old.source exprs.now ds → Adds self.old self.new (least (in_exps (all_exprs ds)))) }
+    {
+        let mut rest = exprs;
+        while let Some((last, others)) = rest.split_last() {
+            self.wait(&[Step::Expr(*last)])?;
+            rest = others;
         }
         Ok(())
     }
 
     /// `let`, with a name or without.
-    pub(crate) fn any_let(&mut self, pos: Pos, operands: &'a [u32]) -> Result<(), AllocError> {
-        if let Some((name, rest)) = operands.split_first() {
-            if self.source.word(*name).is_some() {
-                return self.named_let(pos, *name, rest);
-            }
+    pub(crate) fn any_let(&mut self, pos: Pos, operands: &'a [u32]) -> Result<(), AllocError>
+        ensures { OnOk result ((ds : Items) → ReadAll self.old.source operands.now ds → Adds self.old self.new (least (in_exp (let_form pos ds)))) }
+    {
+        let Some((name, rest)) = operands.split_first() else {
+            return self.broken(pos, Rule::Body);
+        };
+        match self.source.word(*name) {
+            Some(_) => self.named_let(pos, *name, rest),
+            None => self.plain_let(pos, operands),
         }
+    }
+
+    fn plain_let(&mut self, pos: Pos, operands: &'a [u32]) -> Result<(), AllocError>
+        ensures { OnOk result ((ds : Items) → ReadAll self.old.source operands.now ds → Adds self.old self.new (least (in_exp (bound_form true pos ds)))) }
+    {
         let Some((bindings, body)) = self.bindings(pos, operands, true)? else {
             return Ok(());
         };
-        let level = self.scope.level()?;
+        let level = self.maker.scope.level()?;
         self.enter(&bindings.names)?;
-        self.steps.push(Step::Call(pos, bindings.values.len()))?;
+        self.wait(&[Step::Call(pos, bindings.values.len())])?;
         self.push_exprs(&bindings.values)?;
-        self.steps.push(Step::Lambda(pos, level, false))?;
+        self.wait(&[Step::Lambda(pos, level, false)])?;
         self.body(pos, &body)
     }
 
     /// `((letrec ((name (lambda (x ...) body))) name) e ...)`
-    fn named_let(&mut self, pos: Pos, name: u32, operands: &'a [u32]) -> Result<(), AllocError> {
+    fn named_let(&mut self, pos: Pos, name: u32, operands: &'a [u32]) -> Result<(), AllocError>
+        ensures { OnOk result ((w : Word) (ds : Items) → Reads self.old.source name (named_datum w) → ReadAll self.old.source operands.now ds → Adds self.old self.new (least (in_exp (named_form pos w ds)))) }
+    {
         let Some((bindings, body)) = self.bindings(pos, operands, true)? else {
             return Ok(());
         };
-        let level = self.scope.level()?;
+        let level = self.maker.scope.level()?;
         let word = self.name(name)?;
-        self.scope.bind(word)?;
-        let inner = self.scope.level()?;
+        self.maker.scope.bind(word)?;
+        let inner = self.maker.scope.level()?;
         self.enter(&bindings.names)?;
-        self.steps.push(Step::Call(pos, bindings.values.len()))?;
+        self.wait(&[Step::Call(pos, bindings.values.len())])?;
         self.push_exprs(&bindings.values)?;
-        self.steps.extend_from_slice(&[
+        self.wait(&[
             Step::Letrec(pos, level, true),
             Step::Lambda(pos, inner, false),
         ])?;
         self.body(pos, &body)?;
-        self.steps
-            .push(Step::Reference(pos, Variable::Local { level, word }))?;
-        Ok(())
+        self.wait(&[Step::Reference(pos, Variable::Local { level, word })])
     }
 
     /// Nested `let`s of one variable each, or one of none.
-    pub(crate) fn let_star(&mut self, pos: Pos, operands: &'a [u32]) -> Result<(), AllocError> {
+    pub(crate) fn let_star(&mut self, pos: Pos, operands: &'a [u32]) -> Result<(), AllocError>
+        ensures { OnOk result ((ds : Items) → ReadAll self.old.source operands.now ds → Adds self.old self.new (least (in_exp (bound_form false pos ds)))) }
+    {
         let Some((bindings, body)) = self.bindings(pos, operands, false)? else {
             return Ok(());
         };
-        let level = self.scope.level()?;
+        let level = self.maker.scope.level()?;
         self.enter(&bindings.names)?;
-        if bindings.names.is_empty() {
-            self.steps
-                .extend_from_slice(&[Step::Call(pos, 0), Step::Lambda(pos, level, false)])?;
+        self.no_names(pos, &bindings.names, level)?;
+        let variables = self.maker.scope.variables_from(self.alloc, level)?;
+        self.nest(pos, &variables, &bindings.values, level)?;
+        self.body(pos, &body)
+    }
+
+    /// A procedure without variables, where there are none.
+    fn no_names(&mut self, pos: Pos, names: &[u32], level: u32) -> Result<(), AllocError>
+        ensures { OnOk result (Adds self.old self.new None) }
+    {
+        if names.is_empty() {
+            return self.wait(&[Step::Call(pos, 0), Step::Lambda(pos, level, false)]);
         }
-        let variables = self.scope.variables_from(self.alloc, level)?;
+        Ok(())
+    }
+
+    /// Binds variables, which are those from a level on, one inside another.
+    fn nest(
+        &mut self,
+        pos: Pos,
+        variables: &[Variable],
+        values: &[u32],
+        level: u32,
+    ) -> Result<(), AllocError>
+        ensures { OnOk result ((ds : Items) → ReadAll self.old.source values.now ds → Adds self.old self.new (least (in_exps (all_exprs ds)))) }
+    {
         let mut next = level;
-        for (variable, value) in variables.iter().zip(bindings.values.iter()) {
-            self.steps.extend_from_slice(&[
+        let mut later = variables;
+        let mut rest = values;
+        while let Some((value, others)) = rest.split_first() {
+            let Some((variable, inner)) = later.split_first() else {
+                return Err(AllocError);
+            };
+            self.wait(&[
                 Step::Bind(pos, *variable),
                 Step::Expr(*value),
                 Step::Leave(next),
             ])?;
             next = next.saturating_add(1);
+            later = inner;
+            rest = others;
         }
-        self.body(pos, &body)
+        Ok(())
     }
 
-    pub(crate) fn letrec(&mut self, pos: Pos, operands: &'a [u32]) -> Result<(), AllocError> {
+    pub(crate) fn letrec(&mut self, pos: Pos, operands: &'a [u32]) -> Result<(), AllocError>
+        ensures { OnOk result ((ds : Items) → ReadAll self.old.source operands.now ds → Adds self.old self.new (least (in_exp (bound_form true pos ds)))) }
+    {
         let Some((bindings, body)) = self.bindings(pos, operands, true)? else {
             return Ok(());
         };
-        let level = self.scope.level()?;
+        let level = self.maker.scope.level()?;
         self.enter(&bindings.names)?;
-        let inner = self.scope.level()?;
-        for _name in &bindings.names {
-            self.scope.bind_fresh()?;
-        }
+        let inner = self.maker.scope.level()?;
+        self.maker.scope.bind_all_fresh(bindings.names.len())?;
         let all_lambdas = self.are_lambdas(&bindings.values);
-        self.steps.push(Step::Letrec(pos, level, all_lambdas))?;
+        self.wait(&[Step::Letrec(pos, level, all_lambdas)])?;
         self.push_exprs(&bindings.values)?;
-        self.steps.push(Step::Leave(inner))?;
+        self.wait(&[Step::Leave(inner)])?;
         self.body(pos, &body)
     }
 
@@ -165,77 +256,116 @@ impl<'a> Expander<'a> {
         true
     }
 
-    /// `do`: a procedure without a name in the text, which calls itself with the steps' values.
-    pub(crate) fn do_loop(&mut self, pos: Pos, items: &'a [u32]) -> Result<(), AllocError> {
+    /// `(do (binding ..) (test result ..) command ..)`, with these items.
+    pub(crate) fn do_loop(&mut self, pos: Pos, items: &'a [u32]) -> Result<(), AllocError>
+        ensures { OnOk result ((d : Datum) (ds : Items) → ReadAll self.old.source items.now (item d ds) → Adds self.old self.new (least (in_exp (do_form pos ds)))) }
+    {
         let Some(parts) = read_do(self.source.nodes, items) else {
             return self.broken(pos, Rule::Do);
         };
-        let bindings = self.do_bindings(parts.bindings)?;
-        let names = do_names(self.alloc, &bindings)?;
-        if self.twice(&names)? {
+        let turns = read_turns(self.alloc, self.source, parts.bindings)?;
+        if twice(self.alloc, self.source, &turns.names)? {
             return self.broken(pos, Rule::Twice);
         }
-        let level = self.scope.level()?;
-        self.scope.bind_fresh()?;
-        let inner = self.scope.level()?;
-        self.enter(&names)?;
+        self.repeat(pos, parts, &turns)
+    }
+
+    /// A procedure without a name in the text, which calls itself with the values for the next turn.
+    fn repeat(&mut self, pos: Pos, parts: DoLoop<'a>, turns: &Turns) -> Result<(), AllocError>
+        ensures { OnOk result ((ss : Steps) (t : Datum) (rs cs : Items) → AreTurns self.old.source turns.now ss → Reads self.old.source parts.entry.test t → ReadAll self.old.source parts.entry.results.now rs → ReadAll self.old.source parts.entry.commands.now cs → Adds self.old self.new (least (in_steps ss ++ (in_exp (expression t) ++ (in_exps (all_exprs rs) ++ in_exps (all_exprs cs)))))) }
+    {
+        let level = self.maker.scope.level()?;
+        self.maker.scope.bind_fresh()?;
+        let inner = self.maker.scope.level()?;
+        self.enter(&turns.names)?;
         let again = Step::Reference(pos, Variable::Fresh { level });
-        self.steps.push(Step::Call(pos, names.len()))?;
-        self.do_inits(&bindings)?;
-        self.steps.extend_from_slice(&[
+        self.wait(&[Step::Call(pos, turns.names.len())])?;
+        self.push_exprs(&turns.inits)?;
+        self.wait(&[
             Step::Letrec(pos, level, true),
             Step::Lambda(pos, inner, false),
             Step::If(pos),
             Step::Sequence(pos, parts.commands.len().saturating_add(1)),
-            Step::Call(pos, names.len()),
+            Step::Call(pos, turns.names.len()),
         ])?;
-        self.do_steps(pos, &bindings, inner)?;
-        self.steps
-            .extend_from_slice(&[again, Step::Exprs(parts.commands)])?;
-        if parts.results.is_empty() {
-            self.steps.push(Step::Unspecified(pos))?;
-        } else {
-            self.sequence(pos, parts.results)?;
-        }
-        self.steps
-            .extend_from_slice(&[Step::Expr(parts.test), again])?;
-        Ok(())
-    }
-
-    fn do_bindings(&self, ids: &[u32]) -> Result<Vec<DoBinding>, AllocError> {
-        let mut bindings = Vec::new(self.alloc);
-        for id in ids {
-            if let Some(binding) = do_binding(self.source.nodes, *id) {
-                bindings.push(binding)?;
-            }
-        }
-        Ok(bindings)
-    }
-
-    fn do_inits(&mut self, bindings: &[DoBinding]) -> Result<(), AllocError> {
-        for last in bindings.iter().rev() {
-            self.steps.push(Step::Expr(last.init))?;
-        }
-        Ok(())
+        self.next_values(pos, &turns.steps, inner)?;
+        self.wait(&[again, Step::Exprs(parts.commands)])?;
+        self.results(pos, parts.results)?;
+        self.wait(&[Step::Expr(parts.test), again])
     }
 
     /// The values for the next turn: those of the steps, or the variables, which are those from a level on.
-    fn do_steps(&mut self, pos: Pos, bindings: &[DoBinding], level: u32) -> Result<(), AllocError> {
-        let variables = self.scope.variables_from(self.alloc, level)?;
-        for (binding, variable) in bindings.iter().rev().zip(variables.iter().rev()) {
-            self.steps.push(match binding.step {
-                Some(step) => Step::Expr(step),
-                None => Step::Reference(pos, *variable),
-            })?;
+    fn next_values(&mut self, pos: Pos, steps: &[Option<u32>], level: u32) -> Result<(), AllocError>
+        ensures { OnOk result ((ds : Items) → ReadAll self.old.source (those steps.now) ds → Adds self.old self.new (least (in_exps (all_exprs ds)))) }
+    {
+        let variables = self.maker.scope.variables_from(self.alloc, level)?;
+        let mut later = variables.as_slice();
+        let mut rest = steps;
+        while let Some((last, others)) = rest.split_last() {
+            let Some((variable, before)) = later.split_last() else {
+                return Err(AllocError);
+            };
+            self.next_value(pos, *last, *variable)?;
+            later = before;
+            rest = others;
         }
         Ok(())
     }
+
+    /// The value of a step, or a variable where there is none.
+    fn next_value(
+        &mut self,
+        pos: Pos,
+        step: Option<u32>,
+        variable: Variable,
+    ) -> Result<(), AllocError>
+        ensures { OnOk result ((ds : Items) → ReadAll self.old.source (those (step ∷ [])) ds → Adds self.old self.new (least (in_exps (all_exprs ds)))) }
+    {
+        match step {
+            Some(id) => self.wait(&[Step::Expr(id)]),
+            None => self.wait(&[Step::Reference(pos, variable)]),
+        }
+    }
+
+    /// What a `do` comes to: a `Seq` of its results, or nothing.
+    fn results(&mut self, pos: Pos, exprs: &'a [u32]) -> Result<(), AllocError>
+        ensures { OnOk result ((ds : Items) → ReadAll self.old.source exprs.now ds → Adds self.old self.new (least (in_exps (all_exprs ds)))) }
+    {
+        if exprs.is_empty() {
+            return self.wait(&[Step::Unspecified(pos)]);
+        }
+        self.sequence(pos, exprs)
+    }
 }
 
-fn do_names(alloc: Global, bindings: &[DoBinding]) -> Result<Vec<u32>, AllocError> {
+/// The variables of a `do`, what they are first, and what they are in the next turn, where that is written.
+#[derive(Drop)]
+struct Turns {
+    names: Vec<u32>,
+    inits: Vec<u32>,
+    steps: Vec<Option<u32>>,
+}
+
+/// The variables that the bindings of a `do` bind.
+fn read_turns(alloc: Global, source: Source, bindings: &[u32]) -> Result<Turns, AllocError>
+    ensures { IfOk result (λ turns. (ds : Items) → ReadAll source.entry bindings.now ds → all_items is_step ds ≡ true → AreTurns source.entry turns (step_list ds)) }
+{
     let mut names = Vec::new(alloc);
-    for binding in bindings {
+    let mut inits = Vec::new(alloc);
+    let mut steps = Vec::new(alloc);
+    let mut rest = bindings;
+    while let Some((first, others)) = rest.split_first() {
+        let Some(binding) = do_binding(source.nodes, *first) else {
+            return Err(AllocError);
+        };
         names.push(binding.name)?;
+        inits.push(binding.init)?;
+        steps.push(binding.step)?;
+        rest = others;
     }
-    Ok(names)
+    Ok(Turns {
+        names,
+        inits,
+        steps,
+    })
 }

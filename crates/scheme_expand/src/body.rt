@@ -1,12 +1,23 @@
 //! Definitions and bodies (R4RS 5.2).
 
+ghost use Rattle.std.specs.Prelude.{◌≡◌, List as Seq, Option as Perhaps, OnOk, IfOk, MatchOption, true, false};
+ghost use Rattle.scheme_base.specs.declared.pos.Pos.{Pos as Place};
+ghost use Rattle.datum_form.specs.Data.{Datum, Items};
+ghost use Rattle.datum_form.specs.Data.Items.{item};
+ghost use Rattle.scheme_expand.specs.declared.source.Source.{Source as From};
+ghost use Rattle.scheme_expand.specs.Forms.{no_binding, Body as Surface, Word};
+ghost use Rattle.quasi_expand.specs.Shapes.{is_name};
+ghost use Rattle.scheme_expand.specs.Grammar.{is_define, is_no_body, one_is_define, definition as definition_of, definitions_before, each_definition, bound_words, lambda_form, procedure as procedure_form, exprs as all_exprs, body as body_in};
+ghost use Rattle.scheme_expand.specs.Faults.{least, in_exp, in_exps, in_body};
+ghost use Rattle.scheme_expand.specs.Waiting.{Reads, ReadAll, Adds, place, in_values, named_datum, named_data};
+ghost use Rattle.scheme_expand.specs.Shapes.{IsRead, AreDefinitions, AreFormals, ReadTail, with_end, IsHead, IsBody, Collects, is_begin, IsBegun};
+
 use crate::expander::Expander;
 use crate::fault::Rule;
-use crate::formals::{Formals, read_formals, read_params};
+use crate::formals::{Formals, read_formals, read_params, twice};
 use crate::source::Source;
 use crate::step::Step;
 use crate::words::Keyword;
-use datum_form::Kind;
 use draft_form::push_reversed;
 use scheme_base::Pos;
 use std::alloc::{AllocError, Global};
@@ -27,35 +38,79 @@ pub(crate) enum Defined<'a> {
 }
 
 /// The parts of a list that begins with `define`, or the rule that it breaks.
-pub(crate) fn read_definition<'a>(source: Source<'a>, id: u32) -> Result<Definition<'a>, Rule> {
+pub(crate) fn read_definition<'a>(source: Source<'a>, id: u32) -> Result<Definition<'a>, Rule>
+    ensures { (d : Datum) → Reads source.entry id d → is_define d ≡ true → IsRead source.entry result (place d) (definitions_before d) }
+{
     let Some(items) = source.list(id) else {
         return Err(Rule::Begin);
     };
-    let [_, target, rest @ ..] = items else {
+    let Some((_head, operands)) = items.split_first() else {
         return Err(Rule::Define);
     };
-    match (source.kind(*target), rest) {
-        (Some(Kind::Name(_)), [value]) => Ok(Definition {
-            name: *target,
+    let Some((target, rest)) = operands.split_first() else {
+        return Err(Rule::Define);
+    };
+    read_target(source, *target, rest)
+}
+
+/// The parts of a definition of a name, or of a list of a name and formals.
+fn read_target<'a>(source: Source<'a>, target: u32, rest: &'a [u32]) -> Result<Definition<'a>, Rule>
+    ensures { (d : Datum) (ds : Items) (p : Place) → Reads source.entry target d → ReadAll source.entry rest.now ds → IsRead source.entry result p (definition_of p (item d ds)) }
+{
+    match source.word(target) {
+        Some(_) => read_value(target, rest),
+        None => read_named(source, target, rest),
+    }
+}
+
+/// The parts of a definition of a list of a name and formals.
+fn read_named<'a>(source: Source<'a>, target: u32, rest: &'a [u32]) -> Result<Definition<'a>, Rule>
+    ensures { (d : Datum) (ds : Items) (p : Place) → Reads source.entry target d → is_name d ≡ false → ReadAll source.entry rest.now ds → IsRead source.entry result p (definition_of p (item d ds)) }
+{
+    match source.listed(target) {
+        Some((items, tail)) => read_procedure(source, items, tail, rest),
+        None => Err(Rule::Define),
+    }
+}
+
+/// The parts of a definition of a name as the value of an expression.
+fn read_value<'a>(name: u32, rest: &[u32]) -> Result<Definition<'a>, Rule>
+    ensures { (from : From) (w : Word) (ds : Items) (p : Place) → Reads from name (named_datum w) → ReadAll from rest.now ds → IsRead from result p (definition_of p (item (named_datum w) ds)) }
+{
+    let Some((value, more)) = rest.split_first() else {
+        return Err(Rule::Define);
+    };
+    match more.split_first() {
+        None => Ok(Definition {
+            name,
             value: Defined::Expr(*value),
         }),
-        (Some(Kind::List { items, tail }), body) => {
-            let Some((name, params)) = items.as_slice().split_first() else {
-                return Err(Rule::Define);
-            };
-            if source.word(*name).is_none() {
-                return Err(Rule::Define);
-            }
-            let Some(formals) = read_params(source, params, *tail) else {
-                return Err(Rule::Formals);
-            };
-            Ok(Definition {
-                name: *name,
-                value: Defined::Procedure(formals, body),
-            })
-        }
-        _ => Err(Rule::Define),
+        Some(_) => Err(Rule::Define),
     }
+}
+
+/// The parts of a definition of a procedure, whose name and formals are the items of a list and its tail.
+fn read_procedure<'a>(
+    source: Source<'a>,
+    items: &'a [u32],
+    tail: Option<u32>,
+    body: &'a [u32],
+) -> Result<Definition<'a>, Rule>
+    ensures { (ts : Items) (end : Perhaps Datum) (ds : Items) (q : Place) (p : Place) → ReadAll source.entry items.now ts → ReadTail source.entry tail end → ReadAll source.entry body.now ds → IsRead source.entry result p (definition_of p (item (with_end q ts end) ds)) }
+{
+    let Some((name, params)) = items.split_first() else {
+        return Err(Rule::Define);
+    };
+    let Some(_word) = source.word(*name) else {
+        return Err(Rule::Define);
+    };
+    let Some(formals) = read_params(source, params, tail) else {
+        return Err(Rule::Formals);
+    };
+    Ok(Definition {
+        name: *name,
+        value: Defined::Procedure(formals, body),
+    })
 }
 
 impl Defined<'_> {
@@ -75,7 +130,9 @@ pub(crate) fn collect_definitions(
     source: Source,
     item: u32,
     definitions: &mut Vec<u32>,
-) -> Result<bool, AllocError> {
+) -> Result<bool, AllocError>
+    ensures { IfOk result (λ found. (d : Datum) → Reads source.entry item d → Collects source.entry d definitions.old.items definitions.new.items found) }
+{
     let start = definitions.len();
     let mut items = Vec::new(alloc);
     items.push(item)?;
@@ -83,16 +140,36 @@ pub(crate) fn collect_definitions(
         let Some(id) = items.pop() else {
             return Ok(true);
         };
-        match (source.head(id), source.list(id)) {
-            (Some(Keyword::Define), _) => definitions.push(id)?,
-            (Some(Keyword::Begin), Some([_, inner @ ..])) => push_reversed(inner, &mut items)?,
-            _ => {
-                definitions.truncate(start);
-                return Ok(false);
+        if source.defines(id) {
+            definitions.push(id)?;
+        } else {
+            match begun(source, id) {
+                Some(inner) => push_reversed(inner, &mut items)?,
+                None => {
+                    definitions.truncate(start);
+                    return Ok(false);
+                }
             }
         }
     }
     Err(AllocError)
+}
+
+/// The items of a `begin` that has no tail.
+fn begun<'a>(source: Source<'a>, id: u32) -> Option<&'a [u32]>
+    ensures { (d : Datum) → Reads source.entry id d → MatchOption result (is_begin d ≡ false) (λ ids. IsBegun source.entry ids.now d) }
+{
+    let Some(items) = source.list(id) else {
+        return None;
+    };
+    let Some((head, others)) = items.split_first() else {
+        return None;
+    };
+    if source.is_keyword(*head, Keyword::Begin) {
+        Some(others)
+    } else {
+        None
+    }
 }
 
 /// A body: the definitions at its head, the names of those that are good ones, and its expressions.
@@ -108,13 +185,15 @@ pub(crate) fn read_body<'a>(
     alloc: Global,
     source: Source<'a>,
     items: &'a [u32],
-) -> Result<Option<Body<'a>>, AllocError> {
+) -> Result<Option<Body<'a>>, AllocError>
+    ensures { IfOk result (λ found. (ds : Items) → ReadAll source.entry items.now ds → MatchOption found (is_no_body ds ≡ true) (λ parts. (is_no_body ds ≡ false) × IsBody source.entry parts (body_in ds))) }
+{
     let mut definitions = Vec::new(alloc);
-    let head = definitions_at_head(alloc, source, items, &mut definitions)?;
-    let Some(exprs) = items.get(head..) else {
-        return Err(AllocError);
-    };
-    if exprs.is_empty() || defines(source, exprs) {
+    let exprs = after_definitions(alloc, source, items, &mut definitions)?;
+    if exprs.is_empty() {
+        return Ok(None);
+    }
+    if defines(source, exprs) {
         return Ok(None);
     }
     let names = defined_names(alloc, source, &definitions)?;
@@ -125,106 +204,130 @@ pub(crate) fn read_body<'a>(
     }))
 }
 
-/// How many items at the head of a body are definitions, which are put behind others.
-fn definitions_at_head(
+/// What stands after the definitions at the head of a body, which are put behind others.
+fn after_definitions<'a>(
     alloc: Global,
-    source: Source,
-    items: &[u32],
+    source: Source<'a>,
+    items: &'a [u32],
     definitions: &mut Vec<u32>,
-) -> Result<usize, AllocError> {
-    for (index, item) in items.iter().enumerate() {
-        if !collect_definitions(alloc, source, *item, definitions)? {
-            return Ok(index);
+) -> Result<&'a [u32], AllocError>
+    ensures { IfOk result (λ rest. (ds : Items) → ReadAll source.entry items.now ds → IsHead source.entry ds definitions.old.items definitions.new.items rest.now) }
+{
+    let mut rest = items;
+    while let Some((first, others)) = rest.split_first() {
+        if !collect_definitions(alloc, source, *first, definitions)? {
+            return Ok(rest);
         }
+        rest = others;
     }
-    Ok(items.len())
+    Ok(rest)
 }
 
 /// Whether a definition is among these.
-fn defines(source: Source, exprs: &[u32]) -> bool {
-    for expr in exprs {
-        if source.head(*expr) == Some(Keyword::Define) {
+fn defines(source: Source, exprs: &[u32]) -> bool
+    ensures { (ds : Items) → ReadAll source.entry exprs.now ds → result ≡ one_is_define ds }
+{
+    let mut rest = exprs;
+    while let Some((first, others)) = rest.split_first() {
+        if source.defines(*first) {
             return true;
         }
+        rest = others;
     }
     false
 }
 
 /// The names that good definitions define.
-fn defined_names(
-    alloc: Global,
-    source: Source,
-    definitions: &[u32],
-) -> Result<Vec<u32>, AllocError> {
+fn defined_names(alloc: Global, source: Source, definitions: &[u32]) -> Result<Vec<u32>, AllocError>
+    ensures { IfOk result (λ names. (ds : Items) → AreDefinitions source.entry definitions.now ds → ReadAll source.entry names.items (named_data (bound_words (each_definition ds no_binding)))) }
+{
     let mut names = Vec::new(alloc);
-    for id in definitions {
-        if let Ok(definition) = read_definition(source, *id) {
-            names.push(definition.name)?;
+    let mut rest = definitions;
+    while let Some((first, others)) = rest.split_first() {
+        match read_definition(source, *first) {
+            Ok(definition) => names.push(definition.name)?,
+            Err(_rule) => {}
         }
+        rest = others;
     }
     Ok(names)
 }
 
+/// Whether all good definitions among these define lambda expressions.
+fn define_lambdas(source: Source, definitions: &[u32]) -> bool {
+    for id in definitions {
+        if let Ok(definition) = read_definition(source, *id) {
+            if !definition.value.is_lambda(source) {
+                return false;
+            }
+        }
+    }
+    true
+}
+
 impl<'a> Expander<'a> {
     /// A body of a form at a place: a `letrec` of its definitions round its expressions.
-    pub(crate) fn body(&mut self, pos: Pos, body: &Body<'a>) -> Result<(), AllocError> {
+    pub(crate) fn body(&mut self, pos: Pos, body: &Body<'a>) -> Result<(), AllocError>
+        ensures { OnOk result ((b : Surface) → IsBody self.old.source body.now b → Adds self.old self.new (least (in_body b))) }
+    {
         if body.definitions.is_empty() {
             return self.expressions(pos, body.exprs);
         }
-        let level = self.scope.level()?;
+        let level = self.maker.scope.level()?;
         self.enter(&body.names)?;
-        let inner = self.scope.level()?;
-        for _name in &body.names {
-            self.scope.bind_fresh()?;
-        }
-        let letrec = self.steps.len();
-        self.steps.push(Step::Letrec(pos, level, false))?;
-        let all_lambdas = self.values(&body.definitions)?;
-        if let Some(step) = self.steps.get_mut(letrec) {
-            *step = Step::Letrec(pos, level, all_lambdas);
-        }
-        self.steps.push(Step::Leave(inner))?;
+        let inner = self.maker.scope.level()?;
+        self.maker.scope.bind_all_fresh(body.names.len())?;
+        let all_lambdas = define_lambdas(self.source, &body.definitions);
+        self.wait(&[Step::Letrec(pos, level, all_lambdas)])?;
+        self.values(&body.definitions)?;
+        self.wait(&[Step::Leave(inner)])?;
         self.expressions(pos, body.exprs)
     }
 
-    /// The values of definitions, and whether all are lambda expressions.
-    fn values(&mut self, definitions: &[u32]) -> Result<bool, AllocError> {
-        let mut all_lambdas = true;
-        for last in definitions.iter().rev() {
-            match read_definition(self.source, *last) {
-                Ok(definition) => {
-                    all_lambdas = all_lambdas && definition.value.is_lambda(self.source);
-                    self.steps.push(Step::Defined(*last))?;
-                }
-                Err(rule) => {
-                    let pos = self.source.pos(*last);
-                    self.note(pos, rule);
-                }
+    /// The values of definitions that are good ones.
+    fn values(&mut self, definitions: &[u32]) -> Result<(), AllocError>
+        ensures { OnOk result ((ds : Items) → AreDefinitions self.old.source definitions.now ds → Adds self.old self.new (least (in_values (each_definition ds no_binding)))) }
+    {
+        let mut rest = definitions;
+        while let Some((last, others)) = rest.split_last() {
+            self.value(*last)?;
+            rest = others;
+        }
+        Ok(())
+    }
+
+    /// The value of a definition, if it is a good one.
+    fn value(&mut self, id: u32) -> Result<(), AllocError>
+        ensures { OnOk result ((d : Datum) → Reads self.old.source id d → is_define d ≡ true → Adds self.old self.new (least (in_values (definitions_before d no_binding)))) }
+    {
+        match read_definition(self.source, id) {
+            Ok(_) => self.wait(&[Step::Defined(id)]),
+            Err(rule) => {
+                let pos = self.source.pos(id);
+                self.note(pos, rule);
+                Ok(())
             }
         }
-        Ok(all_lambdas)
     }
 
     /// The one expression of a body, or a `Seq` of several.
-    fn expressions(&mut self, pos: Pos, exprs: &'a [u32]) -> Result<(), AllocError> {
+    fn expressions(&mut self, pos: Pos, exprs: &'a [u32]) -> Result<(), AllocError>
+        ensures { OnOk result ((ds : Items) → ReadAll self.old.source exprs.now ds → Adds self.old self.new (least (in_exps (all_exprs ds)))) }
+    {
         match exprs {
-            [only] => {
-                self.steps.push(Step::Expr(*only))?;
-                Ok(())
-            }
+            [only] => self.wait(&[Step::Expr(*only)]),
             _ => self.sequence(pos, exprs),
         }
     }
 
     /// The value of a definition.
-    pub(crate) fn defined(&mut self, id: u32) -> Result<(), AllocError> {
+    pub(crate) fn defined(&mut self, id: u32) -> Result<(), AllocError>
+        ensures { OnOk result ((d : Datum) → Reads self.old.source id d → is_define d ≡ true → Adds self.old self.new (least (in_values (definitions_before d no_binding)))) }
+    {
         let pos = self.source.pos(id);
         match read_definition(self.source, id) {
             Ok(definition) => match definition.value {
-                Defined::Expr(value) => {
-                    self.steps.push(Step::Expr(value))?;
-                    Ok(())
-                }
+                Defined::Expr(value) => self.wait(&[Step::Expr(value)]),
                 Defined::Procedure(formals, body) => self.procedure(pos, formals, body),
             },
             Err(rule) => self.broken(pos, rule),
@@ -232,7 +335,9 @@ impl<'a> Expander<'a> {
     }
 
     /// `(lambda formals body)`
-    pub(crate) fn lambda(&mut self, pos: Pos, operands: &'a [u32]) -> Result<(), AllocError> {
+    pub(crate) fn lambda(&mut self, pos: Pos, operands: &'a [u32]) -> Result<(), AllocError>
+        ensures { OnOk result ((ds : Items) → ReadAll self.old.source operands.now ds → Adds self.old self.new (least (in_exp (lambda_form pos ds)))) }
+    {
         let Some((formals, body)) = operands.split_first() else {
             return self.broken(pos, Rule::Formals);
         };
@@ -248,18 +353,22 @@ impl<'a> Expander<'a> {
         pos: Pos,
         formals: Formals<'a>,
         body: &'a [u32],
-    ) -> Result<(), AllocError> {
+    ) -> Result<(), AllocError>
+        ensures { OnOk result ((ws : Seq Word) (r : Perhaps Word) (ds : Items) → AreFormals self.old.source formals.entry ws r → ReadAll self.old.source body.now ds → Adds self.old self.new (least (in_exp (procedure_form pos ws r ds (body_in ds))))) }
+    {
         let Some(body) = read_body(self.alloc, self.source, body)? else {
             return self.broken(pos, Rule::Body);
         };
         let names = formals.names(self.alloc)?;
-        if self.twice(&names)? || self.twice(&body.names)? {
+        if twice(self.alloc, self.source, &names)? {
             return self.broken(pos, Rule::Twice);
         }
-        let level = self.scope.level()?;
+        if twice(self.alloc, self.source, &body.names)? {
+            return self.broken(pos, Rule::Twice);
+        }
+        let level = self.maker.scope.level()?;
         self.enter(&names)?;
-        self.steps
-            .push(Step::Lambda(pos, level, formals.rest.is_some()))?;
+        self.wait(&[Step::Lambda(pos, level, formals.rest.is_some())])?;
         self.body(pos, &body)
     }
 }

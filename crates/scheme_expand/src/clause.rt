@@ -1,7 +1,19 @@
 //! `cond` and `case` (R4RS 4.2.1), whose clauses are expanded from the last to the first.
 
+ghost use Rattle.std.specs.Prelude.{◌≡◌, None, OnOk, true, false, codes};
+ghost use Rattle.scheme_base.specs.declared.pos.Pos.{Pos as Place};
+ghost use Rattle.datum_form.specs.Data.{Datum, Datum as datum, Items};
+ghost use Rattle.datum_form.specs.Data.Items.{item};
+ghost use Rattle.quasi_expand.specs.Shapes.{are_clauses as all_clauses, is_case, is_word};
+ghost use Rattle.scheme_expand.specs.declared.source.Source.{Source as From};
+ghost use Rattle.scheme_expand.specs.Grammar.{is_clause, case_form, clauses as clauses_in, cases as cases_in};
+ghost use Rattle.scheme_expand.specs.Faults.{least, in_exp, in_clauses, in_cases};
+ghost use Rattle.scheme_expand.specs.Waiting.{Reads, ReadAll, Adds, may_be_clauses};
+ghost use Rattle.scheme_expand.specs.Shapes.{IsFound, cond_form};
+
 use crate::expander::Expander;
 use crate::fault::Rule;
+use crate::scope::Scope;
 use crate::source::Source;
 use crate::step::Step;
 use crate::words::Keyword;
@@ -22,59 +34,106 @@ enum Clause<'a> {
     Else(&'a [u32]),
 }
 
-fn read_clause<'a>(source: Source<'a>, id: u32) -> Option<Clause<'a>> {
-    let (first, exprs) = source.list(id)?.split_first()?;
-    if source.keyword(*first) == Some(Keyword::Else) {
-        if exprs.is_empty() {
-            return None;
-        }
-        return Some(Clause::Else(exprs));
-    }
-    let Some((second, others)) = exprs.split_first() else {
-        return Some(Clause::Test(*first));
+/// A clause of a `cond`, if it is one.
+fn read_clause<'a>(source: Source<'a>, id: u32) -> Option<Clause<'a>>
+    ensures { (d : Datum) → Reads source.entry id d → IsFound source.entry result d }
+{
+    let Some(items) = source.list(id) else {
+        return None;
     };
-    if source.keyword(*second) == Some(Keyword::Arrow) {
-        let [receiver] = others else {
-            return None;
-        };
-        return Some(Clause::Receiver(*first, *receiver));
+    let Some((first, exprs)) = items.split_first() else {
+        return None;
+    };
+    if source.is_keyword(*first, Keyword::Else) {
+        return read_else(exprs);
     }
-    Some(Clause::Then(*first, exprs))
+    read_test(source, *first, exprs)
+}
+
+/// A clause that begins with `else`, and then has these expressions.
+fn read_else<'a>(exprs: &'a [u32]) -> Option<Clause<'a>>
+    ensures { (from : From) (p : Place) (t : Datum) (ds : Items) → ReadAll from exprs.now ds → is_word (codes "else") t ≡ true → IsFound from result (datum.List p (item t ds)) }
+{
+    if exprs.is_empty() {
+        return None;
+    }
+    Some(Clause::Else(exprs))
+}
+
+/// A clause of a test and what stands after it.
+fn read_test<'a>(source: Source<'a>, test: u32, exprs: &'a [u32]) -> Option<Clause<'a>>
+    ensures { (p : Place) (t : Datum) (ds : Items) → Reads source.entry test t → ReadAll source.entry exprs.now ds → is_word (codes "else") t ≡ false → IsFound source.entry result (datum.List p (item t ds)) }
+{
+    let Some((second, others)) = exprs.split_first() else {
+        return Some(Clause::Test(test));
+    };
+    if !source.is_keyword(*second, Keyword::Arrow) {
+        return Some(Clause::Then(test, exprs));
+    }
+    match others {
+        [receiver] => Some(Clause::Receiver(test, *receiver)),
+        _ => None,
+    }
+}
+
+/// Binds a fresh variable for each test whose value is held, and tells whether the clauses end with `else`.
+fn hold_tests(source: Source, clauses: &[u32], scope: &mut Scope) -> Result<bool, AllocError> {
+    let mut ends = false;
+    for clause in clauses {
+        match read_clause(source, *clause) {
+            Some(Clause::Test(_) | Clause::Receiver(..)) => scope.bind_fresh()?,
+            Some(Clause::Else(_)) => ends = true,
+            _ => {}
+        }
+    }
+    Ok(ends)
 }
 
 impl<'a> Expander<'a> {
     /// Whether these are clauses of a `cond`, of which only the last begins with `else`.
-    fn are_clauses(&self, clauses: &[u32]) -> bool {
+    fn are_clauses(&self, clauses: &[u32]) -> bool
+        ensures { (ds : Items) → ReadAll self.now.source clauses.now ds → result ≡ all_clauses is_clause ds }
+    {
         let Some((last, others)) = clauses.split_last() else {
             return false;
         };
-        for clause in others {
-            match read_clause(self.source, *clause) {
-                None | Some(Clause::Else(_)) => return false,
-                Some(_) => {}
+        let Some(_) = read_clause(self.source, *last) else {
+            return false;
+        };
+        let mut rest = others;
+        while let Some((first, later)) = rest.split_first() {
+            if !self.is_inner(*first) {
+                return false;
             }
+            rest = later;
         }
-        read_clause(self.source, *last).is_some()
+        true
     }
 
-    pub(crate) fn cond(&mut self, pos: Pos, clauses: &'a [u32]) -> Result<(), AllocError> {
+    /// Whether this is a clause that does not begin with `else`.
+    fn is_inner(&self, clause: u32) -> bool
+        ensures { (d : Datum) → Reads self.now.source clause d → result ≡ is_clause false d }
+    {
+        match read_clause(self.source, clause) {
+            None => false,
+            Some(Clause::Else(_)) => false,
+            Some(_) => true,
+        }
+    }
+
+    pub(crate) fn cond(&mut self, pos: Pos, clauses: &'a [u32]) -> Result<(), AllocError>
+        ensures { OnOk result ((ds : Items) → ReadAll self.old.source clauses.now ds → Adds self.old self.new (least (in_exp (cond_form pos ds)))) }
+    {
         if !self.are_clauses(clauses) {
             return self.broken(pos, Rule::Cond);
         }
-        let mut ends = false;
-        for clause in clauses {
-            match read_clause(self.source, *clause) {
-                Some(Clause::Test(_) | Clause::Receiver(..)) => self.scope.bind_fresh()?,
-                Some(Clause::Else(_)) => ends = true,
-                _ => {}
-            }
+        let ends = hold_tests(self.source, clauses, &mut self.maker.scope)?;
+        let level = self.maker.scope.level()?;
+        self.wait(&[Step::Clauses(pos, clauses, level)])?;
+        if ends {
+            return Ok(());
         }
-        let level = self.scope.level()?;
-        self.steps.push(Step::Clauses(pos, clauses, level))?;
-        if !ends {
-            self.steps.push(Step::Unspecified(pos))?;
-        }
-        Ok(())
+        self.wait(&[Step::Unspecified(pos)])
     }
 
     /// The last of the clauses that are left.
@@ -83,7 +142,9 @@ impl<'a> Expander<'a> {
         pos: Pos,
         clauses: &'a [u32],
         level: u32,
-    ) -> Result<(), AllocError> {
+    ) -> Result<(), AllocError>
+        ensures { OnOk result ((ds : Items) → ReadAll self.old.source clauses.now ds → may_be_clauses is_clause ds ≡ true → Adds self.old self.new (least (in_clauses (clauses_in ds)))) }
+    {
         let Some((last, others)) = clauses.split_last() else {
             return Ok(());
         };
@@ -93,11 +154,11 @@ impl<'a> Expander<'a> {
         let held = level.saturating_sub(1);
         match clause {
             Clause::Else(exprs) => {
-                self.steps.push(Step::Clauses(pos, others, level))?;
+                self.wait(&[Step::Clauses(pos, others, level)])?;
                 self.sequence(pos, exprs)
             }
             Clause::Then(test, exprs) => {
-                self.steps.extend_from_slice(&[
+                self.wait(&[
                     Step::Clauses(pos, others, level),
                     Step::Branch(pos),
                     Step::Expr(test),
@@ -105,16 +166,15 @@ impl<'a> Expander<'a> {
                 self.sequence(pos, exprs)
             }
             Clause::Test(test) => {
-                self.scope.leave(held);
-                self.steps.extend_from_slice(&[
+                self.maker.scope.leave(held);
+                self.wait(&[
                     Step::Clauses(pos, others, held),
                     Step::Either(pos, held),
                     Step::Expr(test),
-                ])?;
-                Ok(())
+                ])
             }
             Clause::Receiver(test, receiver) => {
-                self.steps.extend_from_slice(&[
+                self.wait(&[
                     Step::Clauses(pos, others, held),
                     Step::Receive(pos, held),
                     Step::Expr(test),
@@ -126,24 +186,25 @@ impl<'a> Expander<'a> {
         }
     }
 
-    pub(crate) fn case(&mut self, pos: Pos, items: &'a [u32]) -> Result<(), AllocError> {
+    /// `(case key clause ..)`, with these items.
+    pub(crate) fn case(&mut self, pos: Pos, items: &'a [u32]) -> Result<(), AllocError>
+        ensures { OnOk result ((d : Datum) (ds : Items) → ReadAll self.old.source items.now (item d ds) → Adds self.old self.new (least (in_exp (case_form pos ds)))) }
+    {
         let Some(case) = read_case(self.source.nodes, items) else {
             return self.broken(pos, Rule::Case);
         };
-        let level = self.scope.level()?;
-        self.scope.bind_fresh()?;
-        self.steps.extend_from_slice(&[
+        let level = self.maker.scope.level()?;
+        self.maker.scope.bind_fresh()?;
+        self.wait(&[
             Step::Bind(pos, Variable::Fresh { level }),
             Step::Expr(case.key),
             Step::Leave(level),
             Step::Cases(pos, case.clauses, level),
         ])?;
-        if let Some((last, _)) = case.clauses.split_last() {
-            if case_clause(self.source.nodes, *last).is_some_and(|clause| clause.data.is_some()) {
-                self.steps.push(Step::Unspecified(pos))?;
-            }
+        if ends_with_else(self.source, case.clauses) {
+            return Ok(());
         }
-        Ok(())
+        self.wait(&[Step::Unspecified(pos)])
     }
 
     /// The last of the clauses that are left.
@@ -152,18 +213,38 @@ impl<'a> Expander<'a> {
         pos: Pos,
         clauses: &'a [u32],
         level: u32,
-    ) -> Result<(), AllocError> {
+    ) -> Result<(), AllocError>
+        ensures { OnOk result ((ds : Items) → ReadAll self.old.source clauses.now ds → may_be_clauses is_case ds ≡ true → Adds self.old self.new (least (in_cases (cases_in ds)))) }
+    {
         let Some((last, others)) = clauses.split_last() else {
             return Ok(());
         };
         let Some(clause) = case_clause(self.source.nodes, *last) else {
             return Err(AllocError);
         };
-        self.steps.push(Step::Cases(pos, others, level))?;
-        if let Some(data) = clause.data {
-            self.steps
-                .extend_from_slice(&[Step::Branch(pos), Step::IsAmong(pos, data, level)])?;
-        }
+        self.wait(&[Step::Cases(pos, others, level)])?;
+        self.test_case(pos, clause.data, level)?;
         self.sequence(pos, clause.exprs)
+    }
+
+    /// The test of a clause of a `case`, if it has data.
+    fn test_case(&mut self, pos: Pos, data: Option<&'a [u32]>, level: u32) -> Result<(), AllocError>
+        ensures { OnOk result (Adds self.old self.new None) }
+    {
+        match data {
+            Some(data) => self.wait(&[Step::Branch(pos), Step::IsAmong(pos, data, level)]),
+            None => Ok(()),
+        }
+    }
+}
+
+/// Whether the last of some clauses of a `case` begins with `else`.
+fn ends_with_else(source: Source, clauses: &[u32]) -> bool {
+    let Some((last, _)) = clauses.split_last() else {
+        return false;
+    };
+    match case_clause(source.nodes, *last) {
+        Some(clause) => clause.data.is_none(),
+        None => false,
     }
 }

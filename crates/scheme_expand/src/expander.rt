@@ -1,16 +1,20 @@
 //! The expansion of a form, step by step.
 
-ghost use Rattle.std.specs.Prelude.{◌≡◌, slice_get};
-ghost use Rattle.scheme_expand.specs.Faults.{fault, least_of};
-ghost use Rattle.scheme_expand.specs.Noted.{level_in, meant, noted, number_of};
+ghost use Rattle.std.specs.Prelude.{◌≡◌, [], ◌∷◌, List as Seq, Option as Perhaps, None, OnOk, IfOk, slice_get};
+ghost use Rattle.datum_form.specs.Data.{Items};
+ghost use Rattle.scheme_expand.specs.Forms.{Word};
+ghost use Rattle.scheme_expand.specs.Grammar.{exprs as all_exprs};
+ghost use Rattle.scheme_expand.specs.Faults.{Fault as Broken, fault, least, in_exps, in_word, in_words};
+ghost use Rattle.scheme_expand.specs.Noted.{level_in, meant, number_of};
+ghost use Rattle.scheme_expand.specs.Waiting.{Reads, ReadAll, Waits, AllWait, Adds, Keeps, Done, named_datum, named_data};
 
 use crate::fault::{Fault, Rule};
-use crate::scope::Scope;
+use crate::make::Maker;
 use crate::source::Source;
 use crate::step::Step;
 use crate::words::Helpers;
-use draft_form::{Constant, Drafts, Variable};
-use scheme_base::{Ids, Pos};
+use draft_form::{Constant, Variable};
+use scheme_base::Pos;
 use std::alloc::{AllocError, Global};
 
 /// How far an expansion has come.
@@ -18,19 +22,15 @@ use std::alloc::{AllocError, Global};
 pub(crate) struct Expander<'a> {
     pub(crate) alloc: Global,
     pub(crate) source: Source<'a>,
-    pub(crate) helpers: Helpers,
     /// By name, whether it is the library's where nothing binds it.
     pub(crate) library: &'a [bool],
-    pub(crate) scope: Scope,
-    pub(crate) drafts: Drafts,
     /// By name, whether the library's variable is assigned or defined.
     pub(crate) changed: Vec<bool>,
     /// The first broken form.
     pub(crate) fault: Option<Fault>,
     /// What is still to be done, the next step last.
     pub(crate) steps: Vec<Step<'a>>,
-    /// The expressions that are made and stand in none yet.
-    pub(crate) made: Vec<u32>,
+    pub(crate) maker: Maker,
 }
 
 impl<'a> Expander<'a> {
@@ -39,28 +39,29 @@ impl<'a> Expander<'a> {
         source: Source<'a>,
         helpers: Helpers,
         library: &'a [bool],
-    ) -> Result<Expander<'a>, AllocError> {
+    ) -> Result<Expander<'a>, AllocError>
+        ensures { IfOk result (λ new. (new.source ≡ source.entry) × (new.steps.items ≡ []) × (new.fault ≡ None)) }
+    {
         let mut changed = Vec::new(alloc);
         changed.resize(library.len(), false)?;
         Ok(Expander {
             alloc,
             source,
-            helpers,
             library,
-            scope: Scope::new(alloc, library.len())?,
-            drafts: Drafts::new(alloc),
             changed,
             fault: None,
             steps: Vec::new(alloc),
-            made: Vec::new(alloc),
+            maker: Maker::new(alloc, helpers, library.len())?,
         })
     }
 
     /// Does what is to be done, and gives the expression that it comes to.
-    pub(crate) fn run(&mut self) -> Result<u32, AllocError> {
+    pub(crate) fn run(&mut self) -> Result<u32, AllocError>
+        ensures { OnOk result ((due : Perhaps Broken) → AllWait self.old.source self.old.steps.items due → Done self.old self.new due) }
+    {
         for _turn in 0..usize::MAX {
             let Some(step) = self.steps.pop() else {
-                return self.take();
+                return self.maker.take();
             };
             self.step(step)?;
         }
@@ -68,60 +69,45 @@ impl<'a> Expander<'a> {
     }
 
     /// Does one step.
-    fn step(&mut self, step: Step<'a>) -> Result<(), AllocError> {
+    fn step(&mut self, step: Step<'a>) -> Result<(), AllocError>
+        ensures { OnOk result ((due : Perhaps Broken) → Waits self.old.source step.entry due → Adds self.old self.new due) }
+    {
         match step {
             Step::Expr(id) => self.expr(id),
             Step::Exprs(ids) => self.exprs(ids),
             Step::Defined(id) => self.defined(id),
             Step::Leave(level) => {
-                self.scope.leave(level);
+                self.maker.scope.leave(level);
                 Ok(())
             }
             Step::Conjuncts(pos, exprs) => self.conjuncts(pos, exprs),
             Step::Alternatives(pos, exprs, level) => self.alternatives(pos, exprs, level),
             Step::Clauses(pos, clauses, level) => self.clauses(pos, clauses, level),
             Step::Cases(pos, clauses, level) => self.cases(pos, clauses, level),
-            other => {
-                let id = self.make(other)?;
-                self.made.push(id)?;
-                Ok(())
-            }
+            other => self.maker.add(other),
         }
     }
 
-    fn exprs(&mut self, ids: &'a [u32]) -> Result<(), AllocError> {
-        let Some((first, others)) = ids.split_first() else {
-            return Ok(());
-        };
-        self.steps
-            .extend_from_slice(&[Step::Exprs(others), Step::Expr(*first)])?;
+    /// Puts steps behind the others.
+    pub(crate) fn wait(&mut self, steps: &[Step<'a>]) -> Result<(), AllocError>
+        ensures { OnOk result ((due : Perhaps Broken) → AllWait self.old.source steps.now due → Adds self.old self.new due) }
+    {
+        self.steps.extend_from_slice(steps)?;
         Ok(())
     }
 
-    /// The expression that was made last.
-    pub(crate) fn take(&mut self) -> Result<u32, AllocError> {
-        match self.made.pop() {
-            Some(id) => Ok(id),
-            None => Err(AllocError),
-        }
-    }
-
-    /// The expressions that were made last, in order.
-    pub(crate) fn take_all(&mut self, count: usize) -> Result<Ids, AllocError> {
-        let Some(start) = self.made.len().checked_sub(count) else {
-            return Err(AllocError);
+    fn exprs(&mut self, ids: &'a [u32]) -> Result<(), AllocError>
+        ensures { OnOk result ((ds : Items) → ReadAll self.old.source ids.now ds → Adds self.old self.new (least (in_exps (all_exprs ds)))) }
+    {
+        let Some((first, others)) = ids.split_first() else {
+            return Ok(());
         };
-        let Some(last) = self.made.get(start..) else {
-            return Err(AllocError);
-        };
-        let ids = Ids::from_slice(self.alloc, last)?;
-        self.made.truncate(start);
-        Ok(ids)
+        self.wait(&[Step::Exprs(others), Step::Expr(*first)])
     }
 
     /// Notes that a form breaks a rule.
     pub(crate) fn note(&mut self, pos: Pos, rule: Rule)
-        ensures { noted self.new.fault ≡ least_of (fault pos (number_of rule)) (noted self.old.fault) }
+        ensures { Adds self.old self.new (least (fault pos (number_of rule) ∷ [])) }
     {
         let fault = Fault { pos, rule };
         match self.fault {
@@ -131,23 +117,24 @@ impl<'a> Expander<'a> {
     }
 
     /// Notes a broken form, and makes an expression in its place.
-    pub(crate) fn broken(&mut self, pos: Pos, rule: Rule) -> Result<(), AllocError> {
+    pub(crate) fn broken(&mut self, pos: Pos, rule: Rule) -> Result<(), AllocError>
+        ensures { OnOk result (Adds self.old self.new (least (fault pos (number_of rule) ∷ []))) }
+    {
         self.note(pos, rule);
-        self.steps.push(Step::Unspecified(pos))?;
-        Ok(())
+        self.wait(&[Step::Unspecified(pos)])
     }
 
-    pub(crate) fn constant(&mut self, constant: Constant, pos: Pos) -> Result<(), AllocError> {
-        let id = self.drafts.constant(constant, pos)?;
-        self.made.push(id)?;
-        Ok(())
+    pub(crate) fn constant(&mut self, constant: Constant, pos: Pos) -> Result<(), AllocError>
+        ensures { Keeps self.old self.new }
+    {
+        self.maker.constant(constant, pos)
     }
 
     /// The variable that a name means here.
     pub(crate) fn variable(&self, word: u32) -> Variable
-        ensures { result ≡ meant (level_in (slice_get self.now.scope.innermost.items word)) (slice_get self.now.library.now word) word }
+        ensures { result ≡ meant (level_in (slice_get self.now.maker.scope.innermost.items word)) (slice_get self.now.library.now word) word }
     {
-        if let Some(level) = self.scope.find(word) {
+        if let Some(level) = self.maker.scope.find(word) {
             return Variable::Local { level, word };
         }
         match self.library.get(word as usize) {
@@ -157,40 +144,32 @@ impl<'a> Expander<'a> {
     }
 
     /// The number of a name that stands where a variable does.
-    pub(crate) fn name(&mut self, id: u32) -> Result<u32, AllocError> {
+    pub(crate) fn name(&mut self, id: u32) -> Result<u32, AllocError>
+        ensures { OnOk result ((w : Word) → Reads self.old.source id (named_datum w) → Adds self.old self.new (least (in_word w))) }
+    {
         let Some(word) = self.source.word(id) else {
             return Err(AllocError);
         };
-        if self.source.keyword(id).is_some() {
-            let pos = self.source.pos(id);
-            self.note(pos, Rule::Keyword);
+        match self.source.keyword(id) {
+            Some(_) => {
+                let pos = self.source.pos(id);
+                self.note(pos, Rule::Keyword);
+                Ok(word)
+            }
+            None => Ok(word),
         }
-        Ok(word)
     }
 
     /// Binds names, which are names.
-    pub(crate) fn enter(&mut self, names: &[u32]) -> Result<(), AllocError> {
-        for name in names {
-            let word = self.name(*name)?;
-            self.scope.bind(word)?;
+    pub(crate) fn enter(&mut self, names: &[u32]) -> Result<(), AllocError>
+        ensures { OnOk result ((ws : Seq Word) → ReadAll self.old.source names.now (named_data ws) → Adds self.old self.new (least (in_words ws))) }
+    {
+        let mut rest = names;
+        while let Some((first, others)) = rest.split_first() {
+            let word = self.name(*first)?;
+            self.maker.scope.bind(word)?;
+            rest = others;
         }
         Ok(())
-    }
-
-    /// Whether a name is twice among these.
-    pub(crate) fn twice(&mut self, names: &[u32]) -> Result<bool, AllocError> {
-        let level = self.scope.level()?;
-        let mut twice = false;
-        for name in names {
-            let Some(word) = self.source.word(*name) else {
-                return Err(AllocError);
-            };
-            if self.scope.find(word).is_some_and(|found| found >= level) {
-                twice = true;
-            }
-            self.scope.bind(word)?;
-        }
-        self.scope.leave(level);
-        Ok(twice)
     }
 }

@@ -1,9 +1,19 @@
 //! Which form a datum is, and the forms that bind nothing (R4RS 4.1, 4.2.1, 4.2.3 and 4.2.6).
 
+ghost use Rattle.std.specs.Prelude.{◌≡◌, [], ◌∷◌, Option as Perhaps, OnOk, IfSome};
+ghost use Rattle.datum_form.specs.Data.Items.{item};
+ghost use Rattle.datum_form.specs.Data.{Datum, Datum as datum, Items};
+ghost use Rattle.quasi_expand.specs.Steps.{exprs_in};
+ghost use Rattle.scheme_expand.specs.Grammar.{expr as expression, exprs as all_exprs, quote_form, quasi_form, if_form, set_form, begin_form};
+ghost use Rattle.scheme_expand.specs.Faults.{Fault, least, in_exp, in_exps, in_word};
+ghost use Rattle.scheme_expand.specs.Forms.{Word};
+ghost use Rattle.scheme_expand.specs.Shapes.{ReadTail, with_end};
+ghost use Rattle.scheme_expand.specs.Waiting.{Reads, ReadAll, Waits, Adds, Keeps, earlier, keyword_of, named_datum};
+
 use crate::expander::Expander;
 use crate::fault::Rule;
 use crate::step::Step;
-use crate::words::{Keyword, known_of};
+use crate::words::{Keyword, Known, known_of};
 use datum_form::Kind;
 use draft_form::{Constant, Variable};
 use quasi_expand::{Part, read_template};
@@ -12,105 +22,190 @@ use std::alloc::AllocError;
 
 impl<'a> Expander<'a> {
     /// An expression.
-    pub(crate) fn expr(&mut self, id: u32) -> Result<(), AllocError> {
+    pub(crate) fn expr(&mut self, id: u32) -> Result<(), AllocError>
+        ensures { OnOk result ((d : Datum) → Reads self.old.source id d → Adds self.old self.new (least (in_exp (expression d)))) }
+    {
         let pos = self.source.pos(id);
         let Some(kind) = self.source.kind(id) else {
             return Err(AllocError);
         };
         match kind {
-            Kind::Name(_) => {
-                let word = self.name(id)?;
-                let variable = self.variable(word);
-                self.steps.push(Step::Reference(pos, variable))?;
-                Ok(())
-            }
-            Kind::List { items, tail: None } => self.list(pos, items.as_slice()),
-            Kind::List { .. } => self.broken(pos, Rule::Begin),
+            Kind::Name(_) => self.name_here(pos, id),
+            Kind::List { items, tail } => self.chain(pos, items.as_slice(), *tail),
             Kind::Vector { .. } => self.broken(pos, Rule::Vector),
             _ => self.constant(Constant::Datum(id), pos),
         }
     }
 
-    fn list(&mut self, pos: Pos, items: &'a [u32]) -> Result<(), AllocError> {
+    /// A name as an expression.
+    fn name_here(&mut self, pos: Pos, id: u32) -> Result<(), AllocError>
+        ensures { OnOk result ((w : Word) → Reads self.old.source id (named_datum w) → Adds self.old self.new (least (in_word w))) }
+    {
+        let word = self.name(id)?;
+        let variable = self.variable(word);
+        self.wait(&[Step::Reference(pos, variable)])
+    }
+
+    /// A list, with a tail or without.
+    fn chain(&mut self, pos: Pos, items: &'a [u32], tail: Option<u32>) -> Result<(), AllocError>
+        ensures { OnOk result ((ds : Items) (end : Perhaps Datum) → ReadAll self.old.source items.now ds → ReadTail self.old.source tail end → Adds self.old self.new (least (in_exp (expression (with_end pos ds end))))) }
+    {
+        match tail {
+            None => self.list(pos, items),
+            Some(_) => self.broken(pos, Rule::Begin),
+        }
+    }
+
+    fn list(&mut self, pos: Pos, items: &'a [u32]) -> Result<(), AllocError>
+        ensures { OnOk result ((ds : Items) → ReadAll self.old.source items.now ds → Adds self.old self.new (least (in_exp (expression (datum.List pos ds))))) }
+    {
         let Some((head, operands)) = items.split_first() else {
             return self.broken(pos, Rule::Empty);
         };
         match self.source.keyword(*head) {
-            None | Some(Keyword::Else | Keyword::Arrow) => {
-                self.call(pos, *head, operands.len(), Step::Exprs(operands))
-            }
-            Some(Keyword::Quote) => self.quote(pos, operands),
-            Some(Keyword::Quasiquote) => self.quasiquote(pos, operands),
-            Some(Keyword::Lambda) => self.lambda(pos, operands),
-            Some(Keyword::If) => self.conditional(pos, operands),
-            Some(Keyword::Set) => self.assignment(pos, operands),
-            Some(Keyword::Begin) => self.begin(pos, operands),
-            Some(Keyword::Cond) => self.cond(pos, operands),
-            Some(Keyword::Case) => self.case(pos, items),
-            Some(Keyword::And) => self.and(pos, operands),
-            Some(Keyword::Or) => self.or(pos, operands),
-            Some(Keyword::Let) => self.any_let(pos, operands),
-            Some(Keyword::LetStar) => self.let_star(pos, operands),
-            Some(Keyword::Letrec) => self.letrec(pos, operands),
-            Some(Keyword::Do) => self.do_loop(pos, items),
-            Some(Keyword::Delay) => self.broken(pos, Rule::Delay),
-            Some(Keyword::Define) => self.broken(pos, Rule::Define),
-            Some(Keyword::Unquote | Keyword::Splice) => self.broken(pos, Rule::Unquote),
+            Some(keyword) => self.form(pos, keyword, items, operands),
+            None => self.call(pos, *head, operands.len(), Step::Exprs(operands)),
         }
     }
 
-    fn quote(&mut self, pos: Pos, operands: &'a [u32]) -> Result<(), AllocError> {
+    /// The form of a keyword, with these items, of which the first is the keyword.
+    fn form(
+        &mut self,
+        pos: Pos,
+        keyword: Keyword,
+        items: &'a [u32],
+        operands: &'a [u32],
+    ) -> Result<(), AllocError>
+        ensures { OnOk result ((d : Datum) (ds : Items) → ReadAll self.old.source items.now (item d ds) → ReadAll self.old.source operands.now ds → keyword_of d ≡ Some keyword → Adds self.old self.new (least (in_exp (expression (datum.List pos (item d ds)))))) }
+    {
+        match keyword {
+            Keyword::Quote => self.quote(pos, operands),
+            Keyword::Quasiquote => self.quasiquote(pos, operands),
+            Keyword::Lambda => self.lambda(pos, operands),
+            Keyword::If => self.conditional(pos, operands),
+            Keyword::Set => self.assignment(pos, operands),
+            Keyword::Begin => self.begin(pos, operands),
+            Keyword::Cond => self.cond(pos, operands),
+            Keyword::Case => self.case(pos, items),
+            Keyword::And => self.and(pos, operands),
+            Keyword::Or => self.or(pos, operands),
+            Keyword::Let => self.any_let(pos, operands),
+            Keyword::LetStar => self.let_star(pos, operands),
+            Keyword::Letrec => self.letrec(pos, operands),
+            Keyword::Do => self.do_loop(pos, items),
+            Keyword::Delay => self.broken(pos, Rule::Delay),
+            Keyword::Define => self.broken(pos, Rule::Define),
+            Keyword::Unquote => self.broken(pos, Rule::Unquote),
+            Keyword::Splice => self.broken(pos, Rule::Unquote),
+            Keyword::Else => self.word_call(pos, items, operands),
+            Keyword::Arrow => self.word_call(pos, items, operands),
+        }
+    }
+
+    /// A call of `else` or `=>`, which are no operators.
+    fn word_call(
+        &mut self,
+        pos: Pos,
+        items: &'a [u32],
+        operands: &'a [u32],
+    ) -> Result<(), AllocError>
+        ensures { OnOk result ((d : Datum) (ds : Items) → ReadAll self.old.source items.now (item d ds) → ReadAll self.old.source operands.now ds → Adds self.old self.new (earlier (least (in_exp (expression d))) (least (in_exps (all_exprs ds))))) }
+    {
+        let Some((head, _)) = items.split_first() else {
+            return Err(AllocError);
+        };
+        self.call(pos, *head, operands.len(), Step::Exprs(operands))
+    }
+
+    fn quote(&mut self, pos: Pos, operands: &'a [u32]) -> Result<(), AllocError>
+        ensures { OnOk result ((ds : Items) → ReadAll self.old.source operands.now ds → Adds self.old self.new (least (in_exp (quote_form pos ds)))) }
+    {
         let [datum] = operands else {
             return self.broken(pos, Rule::Quote);
         };
         self.constant(Constant::Datum(*datum), pos)
     }
 
-    fn quasiquote(&mut self, pos: Pos, operands: &'a [u32]) -> Result<(), AllocError> {
+    fn quasiquote(&mut self, pos: Pos, operands: &'a [u32]) -> Result<(), AllocError>
+        ensures { OnOk result ((ds : Items) → ReadAll self.old.source operands.now ds → Adds self.old self.new (least (in_exp (quasi_form pos ds)))) }
+    {
         let [template] = operands else {
             return self.broken(pos, Rule::Quote);
         };
         let parts = read_template(self.alloc, self.source.nodes, *template)?;
-        for last in parts.iter().rev() {
-            self.steps.push(match *last {
-                Part::Expr(expr) => Step::Expr(expr),
-                part => Step::Template(pos, part),
-            })?;
+        self.template_steps(pos, &parts)
+    }
+
+    /// The steps of a template, of which the first is the next to be done.
+    fn template_steps(&mut self, pos: Pos, parts: &[Part]) -> Result<(), AllocError>
+        ensures { OnOk result ((ds : Items) → ReadAll self.old.source (exprs_in parts.now) ds → Adds self.old self.new (least (in_exps (all_exprs ds)))) }
+    {
+        let mut rest = parts;
+        while let Some((last, others)) = rest.split_last() {
+            self.template_step(pos, *last)?;
+            rest = others;
         }
         Ok(())
     }
 
-    fn conditional(&mut self, pos: Pos, operands: &'a [u32]) -> Result<(), AllocError> {
-        let (test, yes, no) = match operands {
-            [test, yes] => (*test, *yes, Step::Unspecified(pos)),
-            [test, yes, no] => (*test, *yes, Step::Expr(*no)),
-            _ => return self.broken(pos, Rule::IfOrSet),
-        };
-        self.steps
-            .extend_from_slice(&[Step::If(pos), no, Step::Expr(yes), Step::Expr(test)])?;
-        Ok(())
+    fn template_step(&mut self, pos: Pos, part: Part) -> Result<(), AllocError>
+        ensures { OnOk result ((ds : Items) → ReadAll self.old.source (exprs_in (part ∷ [])) ds → Adds self.old self.new (least (in_exps (all_exprs ds)))) }
+    {
+        match part {
+            Part::Expr(expr) => self.wait(&[Step::Expr(expr)]),
+            _ => self.wait(&[Step::Template(pos, part)]),
+        }
     }
 
-    fn assignment(&mut self, pos: Pos, operands: &'a [u32]) -> Result<(), AllocError> {
+    fn conditional(&mut self, pos: Pos, operands: &'a [u32]) -> Result<(), AllocError>
+        ensures { OnOk result ((ds : Items) → ReadAll self.old.source operands.now ds → Adds self.old self.new (least (in_exp (if_form pos ds)))) }
+    {
+        match operands {
+            [test, yes] => self.wait(&[
+                Step::If(pos),
+                Step::Unspecified(pos),
+                Step::Expr(*yes),
+                Step::Expr(*test),
+            ]),
+            [test, yes, no] => self.wait(&[
+                Step::If(pos),
+                Step::Expr(*no),
+                Step::Expr(*yes),
+                Step::Expr(*test),
+            ]),
+            _ => self.broken(pos, Rule::IfOrSet),
+        }
+    }
+
+    fn assignment(&mut self, pos: Pos, operands: &'a [u32]) -> Result<(), AllocError>
+        ensures { OnOk result ((ds : Items) → ReadAll self.old.source operands.now ds → Adds self.old self.new (least (in_exp (set_form pos ds)))) }
+    {
         let [name, value] = operands else {
             return self.broken(pos, Rule::IfOrSet);
         };
-        if self.source.word(*name).is_none() {
+        let Some(_) = self.source.word(*name) else {
             return self.broken(pos, Rule::IfOrSet);
-        }
+        };
         let word = self.name(*name)?;
         let variable = self.variable(word);
+        self.assign(variable);
+        self.wait(&[Step::Assign(pos, variable), Step::Expr(*value)])
+    }
+
+    /// Notes that a variable is assigned.
+    fn assign(&mut self, variable: Variable)
+        ensures { Keeps self.old self.new }
+    {
         match variable {
-            Variable::Local { level, .. } => self.scope.assign(level),
+            Variable::Local { level, .. } => self.maker.scope.assign(level),
             _ => self.change(variable),
         }
-        self.steps
-            .extend_from_slice(&[Step::Assign(pos, variable), Step::Expr(*value)])?;
-        Ok(())
     }
 
     /// Notes that a top-level variable is assigned or defined.
-    pub(crate) fn change(&mut self, variable: Variable) {
+    pub(crate) fn change(&mut self, variable: Variable)
+        ensures { Keeps self.old self.new }
+    {
         let Variable::Library { word } = variable else {
             return;
         };
@@ -119,7 +214,9 @@ impl<'a> Expander<'a> {
         }
     }
 
-    fn begin(&mut self, pos: Pos, exprs: &'a [u32]) -> Result<(), AllocError> {
+    fn begin(&mut self, pos: Pos, exprs: &'a [u32]) -> Result<(), AllocError>
+        ensures { OnOk result ((ds : Items) → ReadAll self.old.source exprs.now ds → Adds self.old self.new (least (in_exp (begin_form pos ds)))) }
+    {
         if exprs.is_empty() {
             return self.broken(pos, Rule::Begin);
         }
@@ -127,44 +224,44 @@ impl<'a> Expander<'a> {
     }
 
     /// A `Seq` of expressions.
-    pub(crate) fn sequence(&mut self, pos: Pos, exprs: &'a [u32]) -> Result<(), AllocError> {
-        self.steps
-            .extend_from_slice(&[Step::Sequence(pos, exprs.len()), Step::Exprs(exprs)])?;
-        Ok(())
+    pub(crate) fn sequence(&mut self, pos: Pos, exprs: &'a [u32]) -> Result<(), AllocError>
+        ensures { OnOk result ((ds : Items) → ReadAll self.old.source exprs.now ds → Adds self.old self.new (least (in_exps (all_exprs ds)))) }
+    {
+        self.wait(&[Step::Sequence(pos, exprs.len()), Step::Exprs(exprs)])
     }
 
-    fn and(&mut self, pos: Pos, operands: &'a [u32]) -> Result<(), AllocError> {
+    fn and(&mut self, pos: Pos, operands: &'a [u32]) -> Result<(), AllocError>
+        ensures { OnOk result ((ds : Items) → ReadAll self.old.source operands.now ds → Adds self.old self.new (least (in_exps (all_exprs ds)))) }
+    {
         let Some((last, others)) = operands.split_last() else {
             return self.constant(Constant::Boolean(true), pos);
         };
-        self.steps
-            .extend_from_slice(&[Step::Conjuncts(pos, others), Step::Expr(*last)])?;
-        Ok(())
+        self.wait(&[Step::Conjuncts(pos, others), Step::Expr(*last)])
     }
 
-    pub(crate) fn conjuncts(&mut self, pos: Pos, exprs: &'a [u32]) -> Result<(), AllocError> {
+    pub(crate) fn conjuncts(&mut self, pos: Pos, exprs: &'a [u32]) -> Result<(), AllocError>
+        ensures { OnOk result ((ds : Items) → ReadAll self.old.source exprs.now ds → Adds self.old self.new (least (in_exps (all_exprs ds)))) }
+    {
         let Some((last, others)) = exprs.split_last() else {
             return Ok(());
         };
-        self.steps.extend_from_slice(&[
+        self.wait(&[
             Step::Conjuncts(pos, others),
             Step::Both(pos),
             Step::Expr(*last),
-        ])?;
-        Ok(())
+        ])
     }
 
     /// An `or`: each operand but the last is held by a fresh variable, round those after it.
-    fn or(&mut self, pos: Pos, operands: &'a [u32]) -> Result<(), AllocError> {
+    fn or(&mut self, pos: Pos, operands: &'a [u32]) -> Result<(), AllocError>
+        ensures { OnOk result ((ds : Items) → ReadAll self.old.source operands.now ds → Adds self.old self.new (least (in_exps (all_exprs ds)))) }
+    {
         let Some((last, others)) = operands.split_last() else {
             return self.constant(Constant::Boolean(false), pos);
         };
-        for _operand in others {
-            self.scope.bind_fresh()?;
-        }
-        let level = self.scope.level()?;
-        self.steps.extend_from_slice(&[Step::Alternatives(pos, others, level), Step::Expr(*last)])?;
-        Ok(())
+        self.maker.scope.bind_all_fresh(others.len())?;
+        let level = self.maker.scope.level()?;
+        self.wait(&[Step::Alternatives(pos, others, level), Step::Expr(*last)])
     }
 
     pub(crate) fn alternatives(
@@ -172,18 +269,19 @@ impl<'a> Expander<'a> {
         pos: Pos,
         exprs: &'a [u32],
         level: u32,
-    ) -> Result<(), AllocError> {
+    ) -> Result<(), AllocError>
+        ensures { OnOk result ((ds : Items) → ReadAll self.old.source exprs.now ds → Adds self.old self.new (least (in_exps (all_exprs ds)))) }
+    {
         let Some((last, others)) = exprs.split_last() else {
             return Ok(());
         };
         let held = level.saturating_sub(1);
-        self.scope.leave(held);
-        self.steps.extend_from_slice(&[
+        self.maker.scope.leave(held);
+        self.wait(&[
             Step::Alternatives(pos, others, held),
             Step::Either(pos, held),
             Step::Expr(*last),
-        ])?;
-        Ok(())
+        ])
     }
 
     /// A call, whose operands are what a step comes to.
@@ -193,20 +291,24 @@ impl<'a> Expander<'a> {
         head: u32,
         count: usize,
         operands: Step<'a>,
-    ) -> Result<(), AllocError> {
-        if let Some(word) = self.source.word(head) {
-            if let Variable::Library { .. } = self.variable(word) {
-                if let Some(call) = known_of(word) {
-                    if call.takes(count) {
-                        self.steps
-                            .extend_from_slice(&[Step::Known(pos, call, count), operands])?;
-                        return Ok(());
-                    }
-                }
-            }
+    ) -> Result<(), AllocError>
+        ensures { OnOk result ((d : Datum) (due : Perhaps Fault) → Reads self.old.source head d → Waits self.old.source operands.entry due → Adds self.old self.new (earlier (least (in_exp (expression d))) due)) }
+    {
+        match self.known(head, count) {
+            Some(call) => self.wait(&[Step::Known(pos, call, count), operands]),
+            None => self.wait(&[Step::Call(pos, count), operands, Step::Expr(head)]),
         }
-        self.steps
-            .extend_from_slice(&[Step::Call(pos, count), operands, Step::Expr(head)])?;
-        Ok(())
+    }
+
+    /// What a call of so many operands is, if that is known of its operator.
+    fn known(&self, head: u32, count: usize) -> Option<Known>
+        ensures { IfSome result (λ call. (d : Datum) → Reads self.now.source head d → least (in_exp (expression d)) ≡ None) }
+    {
+        let word = self.source.word(head)?;
+        let Variable::Library { .. } = self.variable(word) else {
+            return None;
+        };
+        let call = known_of(word)?;
+        if call.takes(count) { Some(call) } else { None }
     }
 }

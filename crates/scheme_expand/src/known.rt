@@ -1,6 +1,6 @@
 //! Calls of the library that become operations at once.
 
-use crate::expander::Expander;
+use crate::make::Maker;
 use crate::words::{Comparison, Known};
 use core_form::What;
 use draft_form::{Constant, Variable};
@@ -33,7 +33,7 @@ impl Known {
     }
 }
 
-impl Expander<'_> {
+impl Maker {
     /// A call whose operands are made.
     pub(crate) fn known_call(
         &mut self,

@@ -13,8 +13,14 @@
 //! The code numbers all names (`words`, `source`), expands a form by steps that wait on a list, so that neither a
 //! long form nor a deep one takes stack (`step`, `expander`, and by kind of form `form`, `body`, `binding`,
 //! `clause`), makes drafts (`make`, `known`) in a scope (`scope`), and notes the first fault (`fault`). `assemble`
-//! chooses the library's definitions. The contract of `expand` says that its core has a text; that it is the
-//! core of `Expands`, and a fault that of `FormFault`, is tested only.
+//! chooses the library's definitions and the program's own names (`first`), finds the symbols (`symbol`), and makes
+//! the core, which is the definition's where the drafts that were made are. The contract of `expand` says that its
+//! core has a text, and that it answers a fault exactly where a form is broken, which is that of `FormFault`; that
+//! its core is the one of `Expands` is tested only.
+//!
+//! `specs/Waiting` says which fault waits in a step: what a call notes and what it leaves waiting have the least
+//! fault of its form by the grammar. `specs/Shapes` says what is read of a form, `specs/Naming` which numbers names
+//! get.
 #![tactic(auto)]
 
 mod answer;
@@ -24,6 +30,7 @@ mod body;
 mod clause;
 mod expander;
 mod fault;
+mod first;
 mod form;
 mod formals;
 mod known;
@@ -34,6 +41,7 @@ mod program;
 mod scope;
 mod source;
 mod step;
+mod symbol;
 mod words;
 
 pub use answer::expand;

@@ -1,16 +1,73 @@
 //! Expressions from their parts.
 
-use crate::expander::Expander;
+use crate::scope::Scope;
 use crate::step::Step;
+use crate::words::Helpers;
 use core_form::What;
-use draft_form::{Constant, Variable};
+use draft_form::{Constant, Drafts, Variable};
 use quasi_expand::Part;
 use scheme_base::{Ids, List, Op, Pos};
-use std::alloc::AllocError;
+use std::alloc::{AllocError, Global};
 
-impl<'a> Expander<'a> {
+/// What is made, and the scope in which it is.
+#[derive(Drop)]
+pub(crate) struct Maker {
+    pub(crate) alloc: Global,
+    pub(crate) helpers: Helpers,
+    pub(crate) scope: Scope,
+    pub(crate) drafts: Drafts,
+    /// The expressions that are made and stand in none yet.
+    pub(crate) made: Vec<u32>,
+}
+
+impl Maker {
+    /// Nothing, where there are so many names.
+    pub(crate) fn new(alloc: Global, helpers: Helpers, names: usize) -> Result<Maker, AllocError> {
+        Ok(Maker {
+            alloc,
+            helpers,
+            scope: Scope::new(alloc, names)?,
+            drafts: Drafts::new(alloc),
+            made: Vec::new(alloc),
+        })
+    }
+
+    /// The expression that was made last.
+    pub(crate) fn take(&mut self) -> Result<u32, AllocError> {
+        match self.made.pop() {
+            Some(id) => Ok(id),
+            None => Err(AllocError),
+        }
+    }
+
+    /// The expressions that were made last, in order.
+    pub(crate) fn take_all(&mut self, count: usize) -> Result<Ids, AllocError> {
+        let Some(start) = self.made.len().checked_sub(count) else {
+            return Err(AllocError);
+        };
+        let Some(last) = self.made.get(start..) else {
+            return Err(AllocError);
+        };
+        let ids = Ids::from_slice(self.alloc, last)?;
+        self.made.truncate(start);
+        Ok(ids)
+    }
+
+    /// Makes the expression that a step comes to, whose parts are made.
+    pub(crate) fn add(&mut self, step: Step) -> Result<(), AllocError> {
+        let id = self.make(step)?;
+        self.made.push(id)?;
+        Ok(())
+    }
+
+    pub(crate) fn constant(&mut self, constant: Constant, pos: Pos) -> Result<(), AllocError> {
+        let id = self.drafts.constant(constant, pos)?;
+        self.made.push(id)?;
+        Ok(())
+    }
+
     /// The expression that a step comes to, whose parts are made.
-    pub(crate) fn make(&mut self, step: Step<'a>) -> Result<u32, AllocError> {
+    fn make(&mut self, step: Step) -> Result<u32, AllocError> {
         match step {
             Step::Unspecified(pos) => self.drafts.constant(Constant::Unspecified, pos),
             Step::Reference(pos, variable) => self.drafts.reference(variable, pos),
@@ -48,7 +105,7 @@ impl<'a> Expander<'a> {
     }
 
     /// The same, where variables are bound or changed.
-    fn make_bound(&mut self, step: Step<'a>) -> Result<u32, AllocError> {
+    fn make_bound(&mut self, step: Step) -> Result<u32, AllocError> {
         match step {
             Step::Either(pos, level) => {
                 let value = self.take()?;

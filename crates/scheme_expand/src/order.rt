@@ -1,9 +1,13 @@
-//! The expressions of a form in the order of its text, and the symbols in it.
+//! The expressions of a form in the order of its text, and the variables in it.
 
-use crate::source::Source;
+ghost use Rattle.std.specs.Prelude.{◌≡◌, ◌++◌, Some, slice_get, OnOk, IfOk};
+ghost use Rattle.draft_form.specs.Drafts.{Draft as Tree, Drafts as Forms, parts, all_parts};
+ghost use Rattle.draft_form.specs.Drawn.{Names, Data, Drawn, AllDrawn};
+ghost use Rattle.scheme_expand.specs.ByWord.{at_most_one, variables_at};
+ghost use Rattle.scheme_expand.specs.Order.{variable_at, AreParts, Lists};
+
 use core_form::What;
-use datum_form::Kind;
-use draft_form::{Constant, Drafts, push_parts, push_reversed};
+use draft_form::{Draft, Drafts, Variable, push_parts};
 use std::alloc::{AllocError, Global};
 
 /// Puts the numbers of a form's expressions, each before its parts, behind others.
@@ -12,104 +16,81 @@ pub(crate) fn preorder(
     drafts: &Drafts,
     form: u32,
     order: &mut Vec<u32>,
-) -> Result<(), AllocError> {
+) -> Result<(), AllocError>
+    ensures { OnOk result ((names : Names) (nodes : Data) (e : Tree) → Drawn names nodes drafts.now form e → Lists names nodes drafts.now order.old.items order.new.items (parts e)) }
+{
     let mut waiting = Vec::new(alloc);
     waiting.push(form)?;
     for _turn in 0..usize::MAX {
         let Some(id) = waiting.pop() else {
             return Ok(());
         };
+        let draft = draft_at(drafts, id)?;
         order.push(id)?;
-        if let Some(draft) = drafts.exprs.get(id as usize) {
-            push_parts(draft, &mut waiting)?;
-        }
+        push_parts(draft, &mut waiting)?;
     }
     Err(AllocError)
 }
 
-/// The numbers of the names that are symbols in constants, in the order in which they first appear.
-#[derive(Drop)]
-pub(crate) struct Symbols {
-    pub(crate) found: Vec<u32>,
-    /// By name, whether it is found.
-    seen: Vec<bool>,
+pub(crate) fn draft_at(drafts: &Drafts, id: u32) -> Result<&Draft, AllocError>
+    ensures { IfOk result (λ draft. slice_get drafts.now.exprs.items id ≡ Some draft.now) }
+{
+    match drafts.exprs.get(id as usize) {
+        Some(draft) => Ok(draft),
+        None => Err(AllocError),
+    }
+}
+
+/// The numbers of the expressions of forms, in the order of their text.
+pub(crate) fn order_of(
     alloc: Global,
+    drafts: &Drafts,
+    forms: &[u32],
+) -> Result<Vec<u32>, AllocError>
+    ensures { IfOk result (λ order. (names : Names) (nodes : Data) (es : Forms) → AllDrawn names nodes drafts.now forms.now es → AreParts names nodes drafts.now order.items (all_parts es)) }
+{
+    let mut order = Vec::new(alloc);
+    for form in forms {
+        preorder(alloc, drafts, *form, &mut order)?;
+    }
+    Ok(order)
 }
 
-impl Symbols {
-    pub(crate) fn new(alloc: Global, names: usize) -> Result<Symbols, AllocError> {
-        let mut seen = Vec::new(alloc);
-        seen.resize(names, false)?;
-        Ok(Symbols {
-            found: Vec::new(alloc),
-            seen,
-            alloc,
-        })
+/// The variables that expressions refer to, assign or define.
+pub(crate) fn variables_of(
+    alloc: Global,
+    drafts: &Drafts,
+    order: &[u32],
+) -> Result<Vec<Variable>, AllocError>
+    ensures { IfOk result (λ variables. variables.items ≡ variables_at drafts.now.exprs.items order.now) }
+{
+    let mut variables = Vec::new(alloc);
+    for id in order {
+        push_variable(drafts, *id, &mut variables)?;
     }
+    Ok(variables)
+}
 
-    /// Finds those of a form.
-    pub(crate) fn find_in_form(
-        &mut self,
-        source: Source,
-        drafts: &Drafts,
-        order: &[u32],
-    ) -> Result<(), AllocError> {
-        for id in order {
-            let Some(draft) = drafts.exprs.get(*id as usize) else {
-                return Err(AllocError);
-            };
-            if let What::Const(number) = &draft.what {
-                if let Some(constant) = drafts.constants.get(*number as usize) {
-                    self.find_in(source, *constant)?;
-                }
-            }
+fn push_variable(drafts: &Drafts, id: u32, variables: &mut Vec<Variable>) -> Result<(), AllocError>
+    ensures { OnOk result (variables.new.items ≡ variables.old.items ++ at_most_one (variable_at drafts.now.exprs.items id)) }
+{
+    match variable_of(drafts, id) {
+        Some(variable) => {
+            variables.push(variable)?;
+            Ok(())
         }
-        Ok(())
-    }
-
-    fn find_in(&mut self, source: Source, constant: Constant) -> Result<(), AllocError> {
-        let mut waiting = Vec::new(self.alloc);
-        match constant {
-            Constant::Datum(id) => waiting.push(id)?,
-            Constant::Rest { node, from } => push_items(source, node, from, &mut waiting)?,
-            _ => {}
-        }
-        for _turn in 0..usize::MAX {
-            let Some(id) = waiting.pop() else {
-                return Ok(());
-            };
-            match source.word(id) {
-                Some(word) => self.add(word)?,
-                None => push_items(source, id, 0, &mut waiting)?,
-            }
-        }
-        Err(AllocError)
-    }
-
-    fn add(&mut self, word: u32) -> Result<(), AllocError> {
-        let Some(seen) = self.seen.get_mut(word as usize) else {
-            return Err(AllocError);
-        };
-        if !*seen {
-            *seen = true;
-            self.found.push(word)?;
-        }
-        Ok(())
+        None => Ok(()),
     }
 }
 
-/// Puts what a list or a vector has from an index on, the last first, behind others.
-fn push_items(source: Source, node: u32, from: u32, to: &mut Vec<u32>) -> Result<(), AllocError> {
-    let (items, tail) = match source.kind(node) {
-        Some(Kind::List { items, tail }) => (items.as_slice(), *tail),
-        Some(Kind::Vector { items }) => (items.as_slice(), None),
-        _ => return Ok(()),
-    };
-    if let Some(tail) = tail {
-        to.push(tail)?;
+/// The variable that an expression refers to, assigns or defines.
+fn variable_of(drafts: &Drafts, id: u32) -> Option<Variable>
+    ensures { result ≡ variable_at drafts.now.exprs.items id }
+{
+    let draft: &Draft = drafts.exprs.get(id as usize)?;
+    match &draft.what {
+        What::Ref(variable) => Some(*variable),
+        What::Set { var, .. } | What::Define { var, .. } => Some(*var),
+        _ => None,
     }
-    if let Some(rest) = items.get(from as usize..) {
-        push_reversed(rest, to)?;
-    }
-    Ok(())
 }

@@ -74,6 +74,14 @@ impl Scope {
         Ok(())
     }
 
+    /// Binds as many variables without names.
+    pub(crate) fn bind_all_fresh(&mut self, count: usize) -> Result<(), AllocError> {
+        for _variable in 0..count {
+            self.bind_fresh()?;
+        }
+        Ok(())
+    }
+
     /// Notes that the variable of a level is assigned.
     pub(crate) fn assign(&mut self, level: u32) {
         if let Some(bound) = self.bound.get_mut(level as usize) {

@@ -1,8 +1,16 @@
 //! Data whose names have numbers.
 
+ghost use Rattle.std.specs.Prelude.{◌≡◌, None, MatchOption, slice_get, false};
+ghost use Rattle.datum_form.specs.Data.{Datum};
+ghost use Rattle.datum_form.specs.Pending.{IsKind};
+ghost use Rattle.quasi_expand.specs.Shapes.{is_list, is_word};
+ghost use Rattle.scheme_expand.specs.Grammar.{is_define};
+ghost use Rattle.scheme_expand.specs.Noted.{level_in};
+ghost use Rattle.scheme_expand.specs.Shapes.{is_listed, IsListed};
+ghost use Rattle.scheme_expand.specs.Waiting.{Reads, IsList, place, keyword_of as keyword_word, head_of, name_of};
+
 use crate::words::{Keyword, keyword_of};
 use datum_form::{Kind, Node};
-use quasi_expand::list_items;
 use scheme_base::Pos;
 
 /// Some data, and the number of the name that each node is.
@@ -15,7 +23,11 @@ pub(crate) struct Source<'a> {
 }
 
 impl<'a> Source<'a> {
-    pub(crate) fn new(nodes: &'a [Node], words: &'a [Option<u32>]) -> Source<'a> {
+    pub(crate) fn new(nodes: &'a [Node], words: &'a [Option<u32>]) -> Source<'a>
+        ensures nodes { result.nodes.now ≡ nodes.now }
+        ensures words { result.words.now ≡ words.now }
+        ensures place { result.place ≡ None }
+    {
         Source {
             nodes,
             words,
@@ -23,7 +35,9 @@ impl<'a> Source<'a> {
         }
     }
 
-    pub(crate) fn pos(self, id: u32) -> Pos {
+    pub(crate) fn pos(self, id: u32) -> Pos
+        ensures { (d : Datum) → Reads self.entry id d → result ≡ place d }
+    {
         if let Some(pos) = self.place {
             return pos;
         }
@@ -33,27 +47,70 @@ impl<'a> Source<'a> {
         }
     }
 
-    pub(crate) fn kind(self, id: u32) -> Option<&'a Kind> {
+    pub(crate) fn kind(self, id: u32) -> Option<&'a Kind>
+        ensures { (d : Datum) → Reads self.entry id d → MatchOption result ⊥ (λ kind. IsKind self.entry.nodes.now kind.now d) }
+    {
         let node = self.nodes.get(id as usize)?;
         Some(&node.kind)
     }
 
     /// The number of a name.
-    pub(crate) fn word(self, id: u32) -> Option<u32> {
+    pub(crate) fn word(self, id: u32) -> Option<u32>
+        ensures { result ≡ level_in (slice_get self.entry.words.now id) }
+    {
         *self.words.get(id as usize)?
     }
 
-    pub(crate) fn keyword(self, id: u32) -> Option<Keyword> {
+    pub(crate) fn keyword(self, id: u32) -> Option<Keyword>
+        ensures { (d : Datum) → Reads self.entry id d → result ≡ keyword_word d }
+    {
         keyword_of(self.word(id)?)
     }
 
+    /// Whether a datum is this keyword.
+    pub(crate) fn is_keyword(self, id: u32, keyword: Keyword) -> bool
+        ensures { (d : Datum) → Reads self.entry id d → result ≡ is_word (name_of keyword) d }
+    {
+        match self.keyword(id) {
+            Some(found) => found == keyword,
+            None => false,
+        }
+    }
+
     /// The items of a list that has no tail.
-    pub(crate) fn list(self, id: u32) -> Option<&'a [u32]> {
-        list_items(self.nodes, id)
+    pub(crate) fn list(self, id: u32) -> Option<&'a [u32]>
+        ensures { (d : Datum) → Reads self.entry id d → MatchOption result (is_list d ≡ false) (λ ids. IsList self.entry ids.now d) }
+    {
+        match self.kind(id)? {
+            Kind::List { items, tail: None } => Some(items.as_slice()),
+            _ => None,
+        }
+    }
+
+    /// The items of a list, and its tail.
+    pub(crate) fn listed(self, id: u32) -> Option<(&'a [u32], Option<u32>)>
+        ensures { (d : Datum) → Reads self.entry id d → MatchOption result (is_listed d ≡ false) (λ parts. IsListed self.entry parts.0.now parts.1 d) }
+    {
+        match self.kind(id)? {
+            Kind::List { items, tail } => Some((items.as_slice(), *tail)),
+            _ => None,
+        }
+    }
+
+    /// Whether this is a list that begins with `define`.
+    pub(crate) fn defines(self, id: u32) -> bool
+        ensures { (d : Datum) → Reads self.entry id d → result ≡ is_define d }
+    {
+        match self.head(id) {
+            Some(keyword) => keyword.is_define(),
+            None => false,
+        }
     }
 
     /// The keyword with which a list begins, whether it has a tail or not.
-    pub(crate) fn head(self, id: u32) -> Option<Keyword> {
+    pub(crate) fn head(self, id: u32) -> Option<Keyword>
+        ensures { (d : Datum) → Reads self.entry id d → result ≡ head_of d }
+    {
         match self.kind(id)? {
             Kind::List { items, .. } => self.keyword(*items.as_slice().first()?),
             _ => None,

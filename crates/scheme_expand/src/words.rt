@@ -1,5 +1,10 @@
 //! Names by numbers, the keywords and the library's known names first.
 
+ghost use Rattle.std.specs.Prelude.{◌≡◌, [], length, IfOk, OnOk, IfSome, None};
+ghost use Rattle.scheme_expand.specs.Waiting.{keyword_at, name_of};
+ghost use Rattle.scheme_expand.specs.Naming.{IsTable, Grows, IsNumbered, Names, IsWordOf, name_list};
+ghost use Rattle.scheme_expand.specs.Shapes.{defines};
+
 use datum_form::{Kind, Node};
 use indexmap::IndexSet;
 use scheme_base::{OPERATIONS, Op};
@@ -55,28 +60,67 @@ pub(crate) enum Known {
     Symbols,
 }
 
-const KEYWORDS: [(&[u8], Keyword); 20] = [
-    (b"quote", Keyword::Quote),
-    (b"lambda", Keyword::Lambda),
-    (b"if", Keyword::If),
-    (b"set!", Keyword::Set),
-    (b"begin", Keyword::Begin),
-    (b"cond", Keyword::Cond),
-    (b"and", Keyword::And),
-    (b"or", Keyword::Or),
-    (b"case", Keyword::Case),
-    (b"let", Keyword::Let),
-    (b"let*", Keyword::LetStar),
-    (b"letrec", Keyword::Letrec),
-    (b"do", Keyword::Do),
-    (b"delay", Keyword::Delay),
-    (b"quasiquote", Keyword::Quasiquote),
-    (b"else", Keyword::Else),
-    (b"=>", Keyword::Arrow),
-    (b"define", Keyword::Define),
-    (b"unquote", Keyword::Unquote),
-    (b"unquote-splicing", Keyword::Splice),
+const KEYWORDS: [Keyword; 20] = [
+    Keyword::Quote,
+    Keyword::Lambda,
+    Keyword::If,
+    Keyword::Set,
+    Keyword::Begin,
+    Keyword::Cond,
+    Keyword::And,
+    Keyword::Or,
+    Keyword::Case,
+    Keyword::Let,
+    Keyword::LetStar,
+    Keyword::Letrec,
+    Keyword::Do,
+    Keyword::Delay,
+    Keyword::Quasiquote,
+    Keyword::Else,
+    Keyword::Arrow,
+    Keyword::Define,
+    Keyword::Unquote,
+    Keyword::Splice,
 ];
+
+impl Keyword {
+    /// Whether this is `define`.
+    pub(crate) fn is_define(self) -> bool
+        ensures { result ≡ defines self }
+    {
+        match self {
+            Keyword::Define => true,
+            _ => false,
+        }
+    }
+
+    fn name(self) -> &'static [u8]
+        ensures { result.now ≡ name_of self }
+    {
+        match self {
+            Keyword::Quote => b"quote",
+            Keyword::Lambda => b"lambda",
+            Keyword::If => b"if",
+            Keyword::Set => b"set!",
+            Keyword::Begin => b"begin",
+            Keyword::Cond => b"cond",
+            Keyword::And => b"and",
+            Keyword::Or => b"or",
+            Keyword::Case => b"case",
+            Keyword::Let => b"let",
+            Keyword::LetStar => b"let*",
+            Keyword::Letrec => b"letrec",
+            Keyword::Do => b"do",
+            Keyword::Delay => b"delay",
+            Keyword::Quasiquote => b"quasiquote",
+            Keyword::Else => b"else",
+            Keyword::Arrow => b"=>",
+            Keyword::Define => b"define",
+            Keyword::Unquote => b"unquote",
+            Keyword::Splice => b"unquote-splicing",
+        }
+    }
+}
 
 const KNOWN: [(&[u8], Known); 49] = [
     (b"eqv?", Known::Operation(Op::Eqv)),
@@ -134,13 +178,16 @@ const KNOWN: [(&[u8], Known); 49] = [
 ];
 
 /// The keyword that the name of this number is.
-pub(crate) fn keyword_of(word: u32) -> Option<Keyword> {
-    let (_, keyword) = KEYWORDS.get(word as usize)?;
-    Some(*keyword)
+pub(crate) fn keyword_of(word: u32) -> Option<Keyword>
+    ensures { result ≡ keyword_at word }
+{
+    Some(*KEYWORDS.get(word as usize)?)
 }
 
 /// What a call of the library's name of this number is.
-pub(crate) fn known_of(word: u32) -> Option<Known> {
+pub(crate) fn known_of(word: u32) -> Option<Known>
+    ensures { IfSome result (λ known. keyword_at word ≡ None) }
+{
     let at = (word as usize).checked_sub(KEYWORDS.len())?;
     if let Some((_, known)) = KNOWN.get(at) {
         return Some(*known);
@@ -165,7 +212,9 @@ pub(crate) struct Words<'a> {
 
 impl<'a> Words<'a> {
     /// The keywords and the names whose calls are known.
-    pub(crate) fn new(alloc: Global) -> Result<Words<'a>, AllocError> {
+    pub(crate) fn new(alloc: Global) -> Result<Words<'a>, AllocError>
+        ensures { IfOk result (λ words. IsTable (name_list words)) }
+    {
         let mut words = Words {
             names: IndexSet::new(alloc),
             helpers: Helpers {
@@ -173,15 +222,8 @@ impl<'a> Words<'a> {
                 list_to_vector: 0,
             },
         };
-        for (name, _) in KEYWORDS {
-            words.number(name)?;
-        }
-        for (name, _) in KNOWN {
-            words.number(name)?;
-        }
-        for op in OPERATIONS {
-            words.number(op.name().as_bytes())?;
-        }
+        words.number_keywords()?;
+        words.number_known()?;
         let join = words.number(b"%join")?;
         let list_to_vector = words.number(b"list->vector")?;
         words.helpers = Helpers {
@@ -191,13 +233,46 @@ impl<'a> Words<'a> {
         Ok(words)
     }
 
+    /// Numbers the keywords, where no name has a number yet.
+    fn number_keywords(&mut self) -> Result<(), AllocError>
+        ensures { OnOk result (name_list self.old ≡ [] → IsTable (name_list self.new)) }
+    {
+        let mut rest: &[Keyword] = &KEYWORDS;
+        while let Some((first, others)) = rest.split_first() {
+            let next = self.names.len();
+            let word = self.number(first.name())?;
+            if (word as usize) < next {
+                return Err(AllocError);
+            }
+            rest = others;
+        }
+        Ok(())
+    }
+
+    /// Numbers the names whose calls are known.
+    fn number_known(&mut self) -> Result<(), AllocError>
+        ensures { OnOk result (Grows (name_list self.old) (name_list self.new)) }
+    {
+        for (name, _) in KNOWN {
+            self.number(name)?;
+        }
+        for op in OPERATIONS {
+            self.number(op.name().as_bytes())?;
+        }
+        Ok(())
+    }
+
     /// How many names there are.
-    pub(crate) fn len(&self) -> usize {
+    pub(crate) fn len(&self) -> usize
+        ensures { result ≡ length self.now.names.keys }
+    {
         self.names.len()
     }
 
     /// All names.
-    pub(crate) fn all(&self) -> &[&'a [u8]] {
+    pub(crate) fn all(&self) -> &[&'a [u8]]
+        ensures { result.now ≡ self.now.names.keys }
+    {
         self.names.as_slice()
     }
 
@@ -210,7 +285,9 @@ impl<'a> Words<'a> {
     }
 
     /// The number of a name.
-    pub(crate) fn number(&mut self, name: &'a [u8]) -> Result<u32, AllocError> {
+    pub(crate) fn number(&mut self, name: &'a [u8]) -> Result<u32, AllocError>
+        ensures { IfOk result (λ word. IsNumbered (name_list self.old) (name_list self.new) name.now word) }
+    {
         let (index, _) = self.names.insert_full(name)?;
         let Ok(word) = u32::try_from(index) else {
             return Err(AllocError);
@@ -223,15 +300,30 @@ impl<'a> Words<'a> {
         &mut self,
         alloc: Global,
         nodes: &'a [Node],
-    ) -> Result<Vec<Option<u32>>, AllocError> {
+    ) -> Result<Vec<Option<u32>>, AllocError>
+        ensures { IfOk result (λ numbers. Names (name_list self.old) (name_list self.new) numbers.items nodes.now) }
+    {
         let mut numbers = Vec::new(alloc);
-        for node in nodes {
-            let number = match &node.kind {
-                Kind::Name(name) => Some(self.number(name.as_slice())?),
-                _ => None,
-            };
+        let mut rest = nodes;
+        while let Some((first, others)) = rest.split_first() {
+            let number = self.number_in(&first.kind)?;
             numbers.push(number)?;
+            rest = others;
         }
         Ok(numbers)
+    }
+
+    /// The number of the name that a node is, if it is one.
+    fn number_in(&mut self, kind: &'a Kind) -> Result<Option<u32>, AllocError>
+        ensures grows { OnOk result (Grows (name_list self.old) (name_list self.new)) }
+        ensures word { IfOk result (λ number. IsWordOf (name_list self.new) number kind.now) }
+    {
+        match kind {
+            Kind::Name(name) => {
+                let word = self.number(name.as_slice())?;
+                Ok(Some(word))
+            }
+            _ => Ok(None),
+        }
     }
 }

@@ -1,0 +1,13 @@
+use Rattle.std.proofs.Common.{List, length}
+use Rattle.scheme_expand.specs.Forms.{Word}
+use Rattle.scheme_expand.specs.Waiting.{ReadAll, named_data}
+use Rattle.scheme_expand.proofs.Entering.{Entered}
+use Rattle.scheme_expand.proofs.expander.Expander.enter.Given as goal
+
+-- the names before those that are left are entered
+abbrev pub invariant-loop-first : goal.invariant-loop-first
+invariant-loop-first l =
+    (ws : List Word) → ReadAll l.initial.self.source l.fn.names (named_data ws) → Entered l.initial.self l.self l.rest ws
+
+abbrev pub decreases-loop-first : goal.decreases-loop-first
+decreases-loop-first l = length l.rest

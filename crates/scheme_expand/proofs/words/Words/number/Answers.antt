@@ -1,0 +1,12 @@
+use Rattle.std.proofs.Common.{refl, sym}
+use Rattle.scheme_expand.specs.Naming.{name_list}
+use Rattle.scheme_expand.proofs.NumberedNames.{numbered, number_as}
+use Rattle.scheme_expand.proofs.words.Words.number.Goals as goal
+
+pub returns : goal.returns
+returns c =
+    let inserted = c.in_ok-index.ensures in
+    let stored = inserted.stored in
+    number_as (name_list c.args.self.now) _ c.args.name.now c.args.name.now c.in_ok-index.index c.in-Ok.word (sym c.in-Ok.ensures.1) refl
+    (numbered c.args.self.now.names.keys c.insert_full.new.self.keys c.args.name stored.0 c.in_ok-index.index inserted.unique
+    inserted.keys stored.1 stored.2)
