@@ -6,7 +6,6 @@ use Rattle.std.proofs.lemmas.List.{length-map}
 use Rattle.flow_constraints.specs.declared.flow.Flow.{Flow}
 use Rattle.flow_constraints.specs.Layout.{flow_of}
 use Rattle.flow_form.specs.declared.rows.Rows.{Rows}
-use Rattle.least_set.specs.Least.{all_below}
 use Rattle.least_set.proofs.Has.{and_cases}
 use Rattle.named_form.specs.declared.program.Named.{Named}
 use Rattle.named_form.specs.declared.program.Proc.{Proc}

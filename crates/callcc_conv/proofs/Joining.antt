@@ -1,6 +1,6 @@
 -- The least set that keeps the graph's links is, as far as it has procedures, the least that has joined calls.
-use Rattle.std.proofs.Common.{◌≡◌, ℕ, ◌+◌, ◌-◌, ◌<◌, ◌≤◌, inl, inr, Bool, true, false, IsTrue, List, [], ◌∷◌, length, Option, Some, None, refl, sym, ap, ◌∙◌, subst, arith}
-use Rattle.std.specs.Prelude.{nat_lt, ◌||◌, ◌&&◌, slice_get, if◌then◌else◌}
+use Rattle.std.proofs.Common.{◌≡◌, ℕ, ◌+◌, ◌-◌, ◌<◌, inl, inr, Bool, true, false, List, [], ◌∷◌, length, Option, Some, None, refl, sym, ap, ◌∙◌, subst, arith}
+use Rattle.std.specs.Prelude.{nat_lt, ◌&&◌, slice_get, if◌then◌else◌}
 use Rattle.std.specs.List.{list_all}
 use Rattle.std.proofs.lemmas.Bool.{le-ltb, lt-ltb, ltb-true}
 use Rattle.std.proofs.lemmas.Option.{slice_get_within}
@@ -12,7 +12,7 @@ use Rattle.plan_facts.specs.Calls.{is_call, is_callcc, is_reached, may_resume}
 use Rattle.plan_facts.specs.Capturing.{Captures, Enters, Follows, HasJoined, IsReachedCall, Joined, Resumes, callees}
 use Rattle.plan_facts.specs.Places.{AllStand, Facts}
 use Rattle.plan_facts.proofs.Standing.{entered_below}
-use Rattle.callcc_conv.specs.Graph.{all_links, all_starts, begins, call_links, call_starts, is_open, links_at, own_links, starts_at}
+use Rattle.callcc_conv.specs.Graph.{all_links, all_starts, begins, is_open, links_at, own_links, starts_at}
 use Rattle.callcc_conv.proofs.Linking.{Linked, linked_of, of_linked, own_named}
 use Rattle.callcc_conv.proofs.Listing.{all_places, at_place, below, in_below, of_below, one_place, opened, when}
 

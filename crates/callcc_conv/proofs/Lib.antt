@@ -4,3 +4,4 @@ mod Joining
 mod Marking
 mod Sets
 mod Gathering
+mod Rising

@@ -1,12 +1,12 @@
 -- What the links of a call say of a set that keeps them.
-use Rattle.std.proofs.Common.{◌≡◌, ℕ, ◌+◌, ◌<◌, inl, inr, Bool, true, false, List, [], ◌∷◌, ◌++◌, refl, sym, ap, ◌∙◌, subst, arith, eqb-true, eq-eqb}
-use Rattle.std.specs.Prelude.{nat_eq, nat_lt, not, ◌||◌, ◌&&◌, if◌then◌else◌}
+use Rattle.std.proofs.Common.{◌≡◌, ℕ, ◌<◌, inl, inr, Bool, true, false, List, [], ◌∷◌, ◌++◌, refl, sym, ◌∙◌, subst, eqb-true, eq-eqb}
+use Rattle.std.specs.Prelude.{nat_eq, nat_lt, ◌&&◌, if◌then◌else◌}
 use Rattle.std.specs.List.{flat_map, list_all}
 use Rattle.std.proofs.lemmas.Bool.{lt-ltb}
 use Rattle.std.proofs.lemmas.List.Folds.{list_all-append}
 use Rattle.least_set.specs.declared.links.Link.{Link}
 use Rattle.least_set.specs.Least.{has, keeps}
-use Rattle.least_set.proofs.Has.{and_cases, below_at, both, or_cases, or_left, or_right}
+use Rattle.least_set.proofs.Has.{and_cases, both, or_cases, or_left, or_right}
 use Rattle.least_set.proofs.Nexts.{implied, implies}
 use Rattle.plan_facts.specs.declared.place.Place.{Place}
 use Rattle.callcc_conv.specs.Graph.{callee_links, link, own_links, tail_links}

@@ -1,6 +1,6 @@
 -- Those numbers of a set that are below a bound are a set.
 use Rattle.std.proofs.Common.{◌≡◌, ℕ, Bool, true, false, List, [], ◌∷◌, cond, refl, arith}
-use Rattle.std.specs.Prelude.{nat_lt, ◌&&◌}
+use Rattle.std.specs.Prelude.{nat_lt}
 use Rattle.std.specs.List.{list_all}
 use Rattle.std.proofs.lemmas.Bool.{lt-ltb, ltb-true}
 use Rattle.least_set.specs.Least.{IsSet, rises}

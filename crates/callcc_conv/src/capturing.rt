@@ -3,6 +3,8 @@
 ghost use Rattle.std.specs.Prelude.{◌≡◌, ◌+◌, length, map, nat_lt, IfOk, IsTrue};
 ghost use Rattle.std.specs.List.{filter};
 ghost use Rattle.least_set.specs.Least.{IsLeast, has};
+ghost use Rattle.named_form.specs.PlainPlan.{var_count};
+ghost use Rattle.named_form.specs.Valid.{WellFormed};
 ghost use Rattle.named_form.specs.ValidPlan.{is_set};
 ghost use Rattle.named_form.specs.Written.{form, procedure};
 ghost use Rattle.plan_facts.specs.Capturing.{HasJoined, IsCapturing, recording};
@@ -23,6 +25,7 @@ pub fn captures(alloc: Global, named: &Named, rows: &Rows) -> Result<ProcSet, Al
     ensures exact { IfOk result (λ set. IsCapturing (form named.now) rows.now set.procs) }
     ensures recording { IfOk result (λ set. set.recording ≡ recording (form named.now) rows.now set.procs) }
     ensures fits { IfOk result (λ set. IsTrue (is_set (length (form named.now).procs) set.procs)) }
+    ensures recording_fits { WellFormed (form named.now) → IfOk result (λ set. IsTrue (is_set (var_count (form named.now).procs) set.recording)) }
 {
     let procs = named.procs.as_slice();
     let flow = flow_of(alloc, named)?;

@@ -4,3 +4,7 @@ pub mod Standing
 mod WorkedPlaces
 pub mod InRows
 pub mod Gathered
+pub mod OneByOne
+pub mod VariableRows
+mod BlankWords
+pub mod SiteNumbers

@@ -1,5 +1,5 @@
 -- What rows hold, whatever rows they are.
-use Rattle.std.specs.Prelude.{ℕ, ◌+◌, ◌*◌, ◌/◌, ◌%◌, ◌&&◌, List, Bool, Option, Some, None, false, nat_eq, nat_lt, slice_get}
+use Rattle.std.specs.Prelude.{ℕ, ◌+◌, ◌*◌, ◌/◌, ◌%◌, ◌&&◌, List, Bool, Option, Some, None, true, false, nat_eq, nat_lt, slice_get}
 use Rattle.std.specs.Int.{bit_at}
 use Rattle.std.specs.List.{filter}
 use Rattle.flow_form.specs.declared.rows.Rows.{Rows}
@@ -16,3 +16,8 @@ holds rows r a = nat_lt (a / 64) rows.stride && bit_of (slice_get rows.words (r 
 -- the atoms of a row, in order
 abbrev pub members_of : Rows → (row : ℕ) → List ℕ
 members_of rows r = filter (holds rows r) (numbers_from 0 (rows.stride * 64))
+
+-- whether no bit is in a word, if there is one
+abbrev pub is_blank : Option ℕ → Bool
+is_blank None = true
+is_blank (Some word) = nat_eq word 0

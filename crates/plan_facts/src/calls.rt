@@ -100,7 +100,7 @@ fn takes(procs: &[Proc], number: u32, action: &Action) -> bool
 }
 
 /// Whether a procedure takes so many operands.
-fn takes_many(proc: &Proc, operands: usize) -> bool
+pub fn takes_many(proc: &Proc, operands: usize) -> bool
     ensures { result ≡ takes (length proc.now.params) (is_some proc.now.rest) operands }
 {
     match proc.rest {

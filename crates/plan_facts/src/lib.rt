@@ -12,7 +12,7 @@ mod pairs;
 mod place;
 mod walk;
 
-pub use calls::{entered, is_reached, may_resume};
+pub use calls::{entered, is_reached, may_resume, takes_many};
 pub use pairs::{holds, members};
 pub use place::{Action, Place, PlaceList, Places};
 pub use walk::places;

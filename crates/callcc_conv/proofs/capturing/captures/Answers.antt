@@ -1,12 +1,14 @@
 use Rattle.std.proofs.Common.{◌≡◌, true, length, map, sym, subst, ap, ◌∙◌}
 use Rattle.std.proofs.lemmas.List.{length-map}
 use Rattle.least_set.specs.Least.{IsLeast, has}
+use Rattle.named_form.specs.PlainPlan.{var_count}
 use Rattle.named_form.specs.ValidPlan.{is_set}
-use Rattle.named_form.specs.Written.{procedure}
+use Rattle.named_form.specs.Written.{form, procedure}
 use Rattle.plan_facts.specs.Capturing.{HasJoined}
 use Rattle.plan_facts.proofs.Gathered.{facts_same}
 use Rattle.callcc_conv.specs.Recording.{marked, recorded}
 use Rattle.callcc_conv.proofs.Gathering.{recording_is, steps_stand}
+use Rattle.callcc_conv.proofs.Rising.{recording_set}
 use Rattle.callcc_conv.proofs.capturing.captures.Goals as goal
 
 pub capturing-requires : goal.capturing-requires
@@ -36,3 +38,8 @@ pub returns-clause-fits : goal.returns-clause-fits
 returns-clause-fits c =
     let many = length-map c.args.named.now.procs procedure ∙ ap (λ ps. length ps) (sym c.as_slice-procs.ensures) in
     subst (λ n. is_set n c.in_ok-set.set ≡ true) (sym many) c.in_ok-set.ensures.fits
+
+pub returns-clause-recording_fits : goal.returns-clause-recording_fits
+returns-clause-recording_fits c well =
+    subst (λ xs. is_set (var_count (form c.args.named.now).procs) xs ≡ true) (sym (returns-clause-recording c))
+    (recording_set (form c.args.named.now) c.args.rows.now c.in_ok-set.set well)

@@ -1,11 +1,11 @@
-use Rattle.std.proofs.Common.{◌≡◌, true, length, map, sym, subst, ap, ◌∙◌, arith}
+use Rattle.std.proofs.Common.{◌≡◌, true, length, map, sym, subst, ap, ◌∙◌}
 use Rattle.std.proofs.lemmas.List.{length-map}
 use Rattle.least_set.specs.Least.{IsClosed, IsLeast, all_below, has, links_below}
 use Rattle.named_form.specs.ValidPlan.{is_set}
 use Rattle.named_form.specs.Written.{procedure}
 use Rattle.plan_facts.specs.Capturing.{HasJoined}
 use Rattle.plan_facts.specs.Places.{facts}
-use Rattle.callcc_conv.specs.Graph.{all_links, all_starts}
+use Rattle.callcc_conv.specs.Graph.{all_links}
 use Rattle.callcc_conv.proofs.Joining.{least_joined, links_are_below, starts_are_below}
 use Rattle.callcc_conv.proofs.Listing.{below}
 use Rattle.callcc_conv.proofs.Sets.{set_below}

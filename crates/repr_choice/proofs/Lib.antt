@@ -1,0 +1,4 @@
+mod Marking
+mod StepNumbers
+mod Refusing
+mod Whole

@@ -1,0 +1,9 @@
+pub mod Marks
+pub mod Ends
+pub mod Values
+pub mod Compare
+pub mod Needs
+pub mod Known
+pub mod Graph
+pub mod Choice
+pub mod Fits
