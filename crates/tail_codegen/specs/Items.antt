@@ -1,5 +1,5 @@
 -- Items of code, each with the items behind it as its last argument.
-use Rattle.std.specs.Prelude.{◌≡◌, ℕ, ◌+◌, ◌*◌, ◌^◌, ℤ, pos, negsuc, int_le, nat_lt, ◌&&◌, if◌then◌else◌, List, ◌∷◌, ◌++◌, Option, Some, None, Bool}
+use Rattle.std.specs.Prelude.{◌≡◌, ℕ, ◌+◌, ◌*◌, ◌^◌, ℤ, pos, negsuc, int_le, nat_lt, ◌&&◌, if◌then◌else◌, List, ◌∷◌, ◌++◌, Bool}
 use Rattle.scheme_base.specs.declared.error.ErrKind.{ErrKind}
 use Rattle.scheme_base.specs.declared.pos.Pos.{Pos}
 use Rattle.rv_form.specs.declared.instr.Instr.{Instr}

@@ -1,5 +1,5 @@
 -- The code of steps, blocks and procedures.
-use Rattle.std.specs.Prelude.{ℕ, suc, ◌+◌, ◌*◌, ℤ, pos, negsuc, ◌&&◌, not, if◌then◌else◌, List, [], ◌∷◌, length, slice_get, Option, Some, None, Bool, true, false, nat_eq}
+use Rattle.std.specs.Prelude.{ℕ, suc, ◌+◌, ◌*◌, ℤ, pos, negsuc, ◌&&◌, not, if◌then◌else◌, List, [], ◌∷◌, length, Option, Some, None, Bool, true, false, nat_eq}
 use Rattle.scheme_base.specs.declared.error.ErrKind.{ErrKind}
 use Rattle.scheme_base.specs.declared.error.ErrKind.TheVariants.{Unbound, Overflow, ZeroDivisor, Undefined}
 use Rattle.scheme_base.specs.declared.op.Op.{Op}
@@ -20,7 +20,7 @@ use Rattle.flat_form.specs.declared.program.Mode.TheVariants.{Stack, StackTail, 
 use Rattle.flat_form.specs.declared.program.Place.{Place}
 use Rattle.flat_form.specs.FlatCode.{Known as StepKnown, Part, Procedure, Code, Ends, Then, Act, Const, Copy, Prim, Call, Apply, CallCC, If, Closure, Fix, MakeBox, MakeHole, Unbox, SetBox, TopGet, TopSet, TopDefine, Present, Absent}
 use Rattle.tail_codegen.specs.Items.{Text, Onto, code, here, address, go, perform, perform_aside, fail, add_small, add, number, position, load, store}
-use Rattle.tail_codegen.specs.Values.{Unit, descriptor_label, closure_label, cell_label, get, put, get_integer, put_bare, is_raw, constant, copy}
+use Rattle.tail_codegen.specs.Values.{Unit, descriptor_label, closure_label, cell_label, get, put, get_integer, put_bare, is_integer, is_raw, constant, copy}
 
 -- what the templates know of a step: the position that its errors name, and whether its checks of types and
 -- counts stand
@@ -227,7 +227,7 @@ arithmetic op.Remainder rest = not_zero (code (rv.Rem 10 10 11) rest)
 arithmetic op.Modulo rest = not_zero (code (rv.Rem 10 10 11) (toward_divisor rest))
 arithmetic o rest = code (rv.Add 10 10 11) (in_range rest)
 
--- the operations of two bare integers that are made in place; `raw` tells that the answer is one, too
+-- the operations of two integers that are made in place; `raw` tells that the answer is held as a bare one
 abbrev pub on_integers : Op → (raw : Bool) → Bool
 on_integers op.Add raw = raw
 on_integers op.Subtract raw = raw
@@ -251,7 +251,7 @@ on_raw u k o first second to rest =
 
 abbrev pub operation : Unit → Spot → Op → List Place → Option Mark → (to : Place) → Onto
 operation u k o (p ∷ q ∷ []) mark to rest =
-    if is_raw p && is_raw q && on_integers o (is_raw to)
+    if is_integer p && is_integer q && on_integers o (is_raw to)
     then on_raw u k o p q to rest
     else by_routine u k o (p ∷ q ∷ []) mark to rest
 operation u k o ps mark to rest = by_routine u k o ps mark to rest

@@ -1,5 +1,5 @@
 -- The code of values: of places, of literals, and of what is known without a run.
-use Rattle.std.specs.Prelude.{ℕ, suc, ◌+◌, ◌*◌, ℤ, pos, ◌*ℤ◌, ◌&&◌, if◌then◌else◌, List, slice_get, slice_index, Option, Some, None, Bool, true, false}
+use Rattle.std.specs.Prelude.{ℕ, ◌+◌, ◌*◌, pos, ◌*ℤ◌, ◌&&◌, if◌then◌else◌, List, slice_get, slice_index, Option, Some, None, Bool, true, false}
 use Rattle.scheme_base.specs.declared.lit.Lit.{Lit}
 use Rattle.scheme_base.specs.declared.lit.Lit.TheVariants as lit
 use Rattle.scheme_base.specs.declared.place.Stated.{Stated}
@@ -69,6 +69,17 @@ has_variable (Known value) = false
 -- whether a place has a bare integer; what a closure keeps is tagged
 abbrev pub is_raw : Place → Bool
 is_raw p = p.raw && has_variable p.at
+
+-- whether a place has a variable's value, its own or one that the closure keeps
+abbrev pub is_held : At → Bool
+is_held (Slot slot) = true
+is_held (Cell cell) = true
+is_held (Kept kept) = true
+is_held (Known value) = false
+
+-- whether a place has the value of a variable that is held as a bare integer where it has a place of its own
+abbrev pub is_integer : Place → Bool
+is_integer p = p.raw && is_held p.at
 
 -- the value of a place, a value put there, and the bare integer of a place
 abbrev pub get : Unit → (reg : ℕ) → Place → Onto

@@ -7,7 +7,7 @@ ghost use Rattle.tail_codegen.specs.Templates as templates;
 ghost use Rattle.tail_codegen.specs.Written.{known, unit as unit_of};
 
 use crate::emit::{go, instruction, number, perform, position};
-use crate::place::{get, get_integer, is_raw, put, put_bare};
+use crate::place::{get, get_integer, is_integer, is_raw, put, put_bare};
 use crate::unit::{Spot, Unit};
 use flat_form::Place;
 use rv_asm::{Asm, Routine};
@@ -27,10 +27,10 @@ pub(crate) fn operation(
     ensures { OnOk result (Puts asm.old asm.new (templates.operation (unit_of unit.now) (known spot) op places.now mark spot.to)) }
 {
     match places {
-        [first, second] if is_raw(*first) && is_raw(*second) && on_integers(op, is_raw(spot.to)) =>
-            {
-                on_raw(asm, unit, op, *first, *second, spot)?;
-            }
+        [first, second]
+            if is_integer(*first) && is_integer(*second) && on_integers(op, is_raw(spot.to)) => {
+            on_raw(asm, unit, op, *first, *second, spot)?;
+        }
         _ => by_routine(asm, unit, op, places, mark, spot)?,
     }
     Ok(())
@@ -75,7 +75,7 @@ fn load_operands(asm: &mut Asm, unit: &Unit, places: &[Place]) -> Result<(), All
     Ok(())
 }
 
-/// Whether an operation of two bare integers is made in place; `raw` tells that its answer is one, too.
+/// Whether an operation of two integers is made in place; `raw` tells that its answer is held as a bare one.
 fn on_integers(op: Op, raw: bool) -> bool
     ensures { result ≡ templates.on_integers op raw }
 {
@@ -86,7 +86,7 @@ fn on_integers(op: Op, raw: bool) -> bool
     }
 }
 
-/// An operation of two bare integers.
+/// An operation of two integers, which are made bare where a closure keeps them.
 fn on_raw(
     asm: &mut Asm,
     unit: &Unit,

@@ -71,6 +71,23 @@ fn has_variable(at: At) -> bool
     }
 }
 
+/// Whether a place has a variable that is held as a bare integer where it has a place of its own.
+pub(crate) fn is_integer(place: Place) -> bool
+    ensures { result ≡ values.is_integer place }
+{
+    place.raw && is_held(place.at)
+}
+
+/// Whether a place has a variable's value, its own or one that the closure keeps.
+fn is_held(at: At) -> bool
+    ensures { result ≡ values.is_held at }
+{
+    match at {
+        At::Slot(_) | At::Cell(_) | At::Kept(_) => true,
+        At::Stated(_) => false,
+    }
+}
+
 /// The value of a place.
 pub(crate) fn get(asm: &mut Asm, unit: &Unit, reg: u8, place: Place) -> Result<(), AllocError>
     ensures { OnOk result (Puts asm.old asm.new (values.get (unit_of unit.now) reg place)) }

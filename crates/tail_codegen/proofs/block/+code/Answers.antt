@@ -1,8 +1,7 @@
-use Rattle.std.proofs.Common.{◌≡◌, ◌+◌, ◌++◌, Bool, true, false, not, ℕ, sym, ap, ◌∙◌, subst, add_assoc}
-use Rattle.flat_form.specs.FlatCode.{Then, Code}
-use Rattle.flat_form.specs.FlatWritten.{act, code}
-use Rattle.tail_codegen.specs.Items.{Text, Puts}
-use Rattle.tail_codegen.specs.Templates.{block, ends, labels_in, labels_of, spot_of, step}
+use Rattle.std.proofs.Common.{◌≡◌, ◌+◌, ◌++◌, true, not, sym, ap, ◌∙◌}
+use Rattle.flat_form.specs.FlatWritten.{act}
+use Rattle.tail_codegen.specs.Items.{Puts}
+use Rattle.tail_codegen.specs.Templates.{block, labels_in, labels_of, spot_of, step}
 use Rattle.tail_codegen.specs.Written.{end_of, unit}
 use Rattle.tail_codegen.proofs.Linked.{code_is, known_of, left, left_is}
 use Rattle.tail_codegen.proofs.OneStepMore.{reached_items, reached_labels, unreached_items, unreached_labels}
