@@ -195,7 +195,7 @@ fn ended<R: AllocGlobal + Threads + Sync>(
 }
 
 /// Programs with their input, the calls that fail, their status, their output and their errors.
-const PROGRAMS: [(&str, &str, &[u64], u8, &str, &str); 30] = [
+const PROGRAMS: [(&str, &str, &[u64], u8, &str, &str); 32] = [
     ("", "", &[], 0, "", ""),
     ("(display \"hi\")(newline)", "", &[], 0, "hi\n", ""),
     (
@@ -222,9 +222,29 @@ const PROGRAMS: [(&str, &str, &[u64], u8, &str, &str); 30] = [
          (loop 100000)(write-char #\\z)",
         "",
         &[],
+        0,
+        "z",
+        "",
+    ),
+    (
+        "(define (f n) (cons n n))
+         (define (loop i) (if (= i 0) 0 (begin (f i) (loop (- i 1)))))
+         (loop 100000)(write-char #\\z)",
+        "",
+        &[],
         2,
         "",
         "storage\n",
+    ),
+    (
+        "(define (loop i)
+           (if (= i 0) 0 (begin ((lambda (g) (g i)) (lambda (x) x)) (loop (- i 1)))))
+         (loop 100000)(write-char #\\z)",
+        "",
+        &[],
+        0,
+        "z",
+        "",
     ),
     (
         "(define n 0)(define k #f)

@@ -3,3 +3,4 @@ pub mod InRows
 pub mod Laid
 pub mod Naming
 pub mod Refusals
+pub mod Plans

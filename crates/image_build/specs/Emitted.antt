@@ -6,8 +6,12 @@ use Rattle.scheme_base.specs.declared.error.LimitErr.TheVariants as limited
 use Rattle.scheme_base.specs.declared.limit.Limit.{Limit}
 use Rattle.scheme_base.specs.declared.limit.LimitKind.TheVariants as kind
 use Rattle.scheme_base.specs.declared.lit.Lit.{Lit}
+use Rattle.core_form.specs.declared.program.Program.{Program}
+use Rattle.scheme_base.specs.declared.pos.Pos.{Pos}
 use Rattle.core_form.specs.declared.program.Var.{Var}
-use Rattle.core_form.specs.Trees.{Trees}
+use Rattle.core_form.specs.declared.program.VarRef.{VarRef}
+use Rattle.core_form.specs.Trees.{Holds, Trees}
+use Rattle.core_form.specs.Valid.{IsRenamed}
 use Rattle.alpha_core.specs.Answers.{most}
 use Rattle.alpha_core.specs.Depth.{deepest}
 use Rattle.alpha_core.specs.Renaming.{all_renamed}
@@ -19,17 +23,18 @@ use Rattle.datum_form.specs.declared.error.FormErr.TheVariants as broken
 use Rattle.datum_reader.specs.Answer.{Reads, ReadFault}
 use Rattle.datum_reader.specs.declared.error.ReadErr.{ReadErr}
 use Rattle.datum_reader.specs.declared.error.ReadErr.TheVariants as fault
+use Rattle.scheme_expand.specs.Programs.{faults, FormFault}
 use Rattle.elf_write.specs.File.{file_of}
 use Rattle.elf_write.specs.Valid.{IsValid}
 use Rattle.rv_form.specs.declared.image.Image.{Image}
 use Rattle.named_form.specs.Code.{program}
-use Rattle.named_form.specs.PlainPlan.{plain}
 use Rattle.named_form.specs.Valid.{Form as NamedForm, WellFormed}
 use Rattle.named_form.specs.Written.{form}
 use Rattle.named_form.specs.declared.plan.Plan.{Plan}
 use Rattle.named_form.specs.declared.program.Named.{Named}
 use Rattle.flow_form.specs.declared.constraints.Constraints.{Constraints}
-use Rattle.flow_form.specs.Shape.{IsMadeOf}
+use Rattle.flow_form.specs.Shape.{HoldsLeast, IsMadeOf}
+use Rattle.flow_form.specs.declared.rows.Rows.{Rows}
 use Rattle.flow_constraints.specs.Limits.{atom_count, passed, row_count}
 use Rattle.flow_constraints.specs.Listed.{rules_of}
 use Rattle.flow_workers.specs.Rounds.{IsSolved}
@@ -43,6 +48,7 @@ use Rattle.rv_asm.specs.declared.item.AsmItem.{AsmItem}
 use Rattle.rv_asm.specs.Layout.{image_of, image_size, cut}
 use Rattle.image_support.specs.Text.{text as routines}
 use Rattle.tail_codegen.specs.Written.{code_of}
+use Rattle.image_build.specs.Planned.{Plans}
 use Rattle.image_build.specs.declared.analysis.Analysis.{Analysis}
 use Rattle.image_build.specs.declared.error.BuildErr.{BuildErr}
 use Rattle.image_build.specs.declared.error.BuildErr.TheVariants.{Read, Form, Limit as Passed, NoMemory}
@@ -65,20 +71,24 @@ told_limit limited.NoMemory = NoMemory
 
 -- What is built
 
--- a text reads as data
+-- a text reads as data of which no form is broken
 abbrev pub IsRead : List ℕ → Type 0
-IsRead source = (read : Items) × Reads source read
+IsRead source = (ds : Items) × Reads source ds × (faults ds ≡ [])
 
 -- the named form of the program in core forms with these forms and literals: its local variables have numbers
 abbrev pub form_of : Trees Var → List Lit → NamedForm
 form_of forms lits = named_form (all_told lits (all_renamed [] 0 forms)) lits
 
--- a program is the named form of one in core forms, which is not too deep
+-- A program is the named form of one in core forms, which is not too deep; where that is a valid core, the named form
+-- is well formed.
 pub record IsNamed (named : Named) : Type 0 where
   pub forms : Trees Var
   pub lits : List Lit
   pub shallow : deepest forms ≤ most
   pub is : form named ≡ form_of forms lits
+  pub renamed : Program VarRef
+  pub holds : Holds renamed (all_renamed [] 0 forms)
+  pub well_formed : IsRenamed renamed (all_renamed [] 0 forms) → WellFormed (form named)
 
 -- the constraints of a program: those that its rows, its atoms and the list of its rules make
 pub record IsRuled (named : Named) (constraints : Constraints) : Type 0 where
@@ -93,10 +103,18 @@ pub record IsAnalysed (source : List ℕ) (analysis : Analysis) : Type 0 where
   pub ruled : IsRuled analysis.named analysis.constraints
   pub solved : IsSolved analysis.constraints analysis.closed
 
--- the flat program of a named one under a storage plan, which is the plain plan of a well-formed program
+-- the storage plan of a named program, by the least solution of its constraints
+pub record IsPlanned (named : Named) (plan : Plan) : Type 0 where
+  pub constraints : Constraints
+  pub ruled : IsRuled named constraints
+  pub rows : Rows
+  pub least : HoldsLeast constraints rows
+  pub plans : Plans (form named) rows plan
+
+-- the flat program of a named one under its storage plan
 pub record IsFlat (named : Named) (flat : Flat) : Type 0 where
   pub plan : Plan
-  pub is_plain : WellFormed (form named) → plan ≡ plain (form named)
+  pub is_planned : IsPlanned named plan
   pub is : flat_form_of flat ≡ flat_of plan named.tops (program (form named).procs (form named).lits)
 
 abbrev pub Pieces : Type 0
@@ -132,7 +150,6 @@ pub record Emitted (source : List ℕ) (heap : ℕ) (file : List ℕ) : Type 0 w
   pub read : IsRead source
   pub named : Named
   pub is_named : IsNamed named
-  pub few : passed (form named) ≡ None
   pub flat : Flat
   pub is_flat : IsFlat named flat
   pub image : Image
@@ -168,17 +185,26 @@ abbrev pub PassesLate : Limit → Type 0
 PassesLate l =
     PassesEarly l ⊎ ((named : Named) × IsNamed named × (flat : Flat) × IsFlat named flat × IsTooLarge flat l)
 
--- a refusal of a pass behind the reader, of which these limits may be passed
+-- a refusal of a pass behind the expansion, of which these limits may be passed
 abbrev pub IsLater : (Limit → Type 0) → BuildErr → Type 0
 IsLater Passes (Read e) = ⊥
-IsLater Passes (Form e) = Unit {0}
+IsLater Passes (Form e) = ⊥
 IsLater Passes (Passed l) = Passes l
 IsLater Passes NoMemory = Unit {0}
+
+-- a form of some data is broken: the first that is, by its least rule
+abbrev pub IsBroken : Items → BuildErr → Type 0
+IsBroken ds error = (p : Pos) × (n : ℕ) × FormFault ds p n × (error ≡ Form (broken.Broken p n))
+
+-- why data are refused: a form is broken, or none is and a later pass refuses the program
+abbrev pub RefusedData : (Limit → Type 0) → Items → BuildErr → Type 0
+RefusedData Passes ds error = IsBroken ds error ⊎ ((faults ds ≡ []) × IsLater Passes error) ⊎ (error ≡ NoMemory)
 
 -- why a text is refused, at the reader or behind it
 abbrev pub RefusedBy : (Limit → Type 0) → List ℕ → BuildErr → Type 0
 RefusedBy Passes source error =
-    ((e : ReadErr) × ReadFault source e × (error ≡ told_read e)) ⊎ (IsRead source × IsLater Passes error) ⊎ (error ≡ NoMemory)
+    ((e : ReadErr) × ReadFault source e × (error ≡ told_read e))
+    ⊎ ((ds : Items) × Reads source ds × RefusedData Passes ds error) ⊎ (error ≡ NoMemory)
 
 -- why a text has no analysis
 abbrev pub Unanalysed : List ℕ → BuildErr → Type 0

@@ -4,17 +4,17 @@ ghost use Rattle.std.specs.Prelude.{◌≡◌, ◌≤◌, ◌<◌, ◌%◌, ◌^
 ghost use Rattle.elf_write.specs.File.{file_of as file_bytes};
 ghost use Rattle.elf_write.specs.Valid.{IsValid};
 ghost use Rattle.rv_asm.specs.Layout.{AreSound, items_of};
-ghost use Rattle.image_build.specs.Emitted.{Emitted, IsFlat, IsImage, IsUnlaid, Refuses, text_with};
+ghost use Rattle.flow_workers.specs.Rounds.{IsSolved};
+ghost use Rattle.image_build.specs.Emitted.{Emitted, IsFlat, IsImage, IsRuled, IsUnlaid, Refuses, text_with};
 
-use crate::BuildErr;
 use crate::codes::codes;
 use crate::error::limit_error;
-use crate::front::accepted;
+use crate::plan::plan_of;
+use crate::{Analysis, BuildErr, analyse};
 use closure_conv::flatten;
 use const_data::{Offsets, static_words};
 use flat_form::Flat;
 use image_support::support;
-use named_form::{Named, Plan};
 use rv_asm::{Asm, Parts, is_sound, layout};
 use rv_form::Image;
 use scheme_base::LimitErr;
@@ -40,12 +40,11 @@ pub fn build<R: AllocGlobal + Threads + Sync, G: Gate>(
     ensures built { IfOk result (λ file. Emitted source.now heap file.items) }
     ensures refused { IfErr result (λ error. Refuses source.now heap error) }
 {
-    let _ = gate;
-    let named = match accepted(alloc, source) {
-        Ok(named) => named,
+    let analysis = match analyse(rt, alloc, source, workers, gate) {
+        Ok(analysis) => analysis,
         Err(error) => return Err(error),
     };
-    let Ok(flat) = flat_of(alloc, &named) else {
+    let Ok(flat) = flat_of(alloc, &analysis) else {
         return Err(BuildErr::NoMemory);
     };
     match image_of(rt, alloc, &flat, heap, workers) {
@@ -54,12 +53,14 @@ pub fn build<R: AllocGlobal + Threads + Sync, G: Gate>(
     }
 }
 
-/// The flat form of a program under the plain plan.
-fn flat_of(alloc: Global, named: &Named) -> Result<Flat, AllocError>
-    ensures { IfOk result (IsFlat named.now) }
+/// The flat form of a program under the storage plan of its analysis.
+fn flat_of(alloc: Global, analysis: &Analysis) -> Result<Flat, AllocError>
+    requires ruled { IsRuled analysis.now.named analysis.now.constraints }
+    requires solved { IsSolved analysis.now.constraints analysis.now.closed }
+    ensures { IfOk result (IsFlat analysis.now.named) }
 {
-    let plan = Plan::plain(alloc, named)?;
-    flatten(alloc, named, &plan)
+    let plan = plan_of(alloc, &analysis.named, analysis.closed.rows())?;
+    flatten(alloc, &analysis.named, &plan)
 }
 
 /// The image of a flat program.

@@ -1,10 +1,11 @@
 //! From the text of a program to its named form and its constraints.
 
-ghost use Rattle.std.specs.Prelude.{◌≡◌, None, IfOk, IfErr};
+ghost use Rattle.std.specs.Prelude.{◌≡◌, [], IfOk, IfErr};
+ghost use Rattle.datum_form.specs.Data.{Items};
+ghost use Rattle.datum_form.specs.Stands.{Holds};
 ghost use Rattle.core_form.specs.Text.{HasText};
-ghost use Rattle.named_form.specs.Written.{form};
-ghost use Rattle.flow_constraints.specs.Limits.{passed};
-ghost use Rattle.image_build.specs.Emitted.{IsLater, IsNamed, IsRead, IsRuled, PassesEarly, Unanalysed};
+ghost use Rattle.scheme_expand.specs.Programs.{faults};
+ghost use Rattle.image_build.specs.Emitted.{IsLater, IsNamed, IsRead, IsRuled, PassesEarly, RefusedData, Unanalysed};
 
 use crate::BuildErr;
 use crate::error::{form_error, limit_error, read_error};
@@ -33,11 +34,12 @@ pub(crate) fn named_of(alloc: Global, source: &[u8]) -> Result<Named, BuildErr>
 }
 
 /// The named form of the program that some data are.
-fn named_data(alloc: Global, data: &Datums) -> Result<Named, BuildErr>
+fn named_data(alloc: Global, datums: &Datums) -> Result<Named, BuildErr>
+    ensures unbroken { (ds : Items) → Holds datums.now ds → IfOk result (λ named. faults ds ≡ []) }
     ensures is_named { IfOk result IsNamed }
-    ensures refused { IfErr result (IsLater PassesEarly) }
+    ensures refused { (ds : Items) → Holds datums.now ds → IfErr result (RefusedData PassesEarly ds) }
 {
-    let core = match expand(alloc, data) {
+    let core = match expand(alloc, datums) {
         Ok(core) => core,
         Err(error) => return Err(form_error(error)),
     };
@@ -57,23 +59,6 @@ fn named_core(alloc: Global, core: &Core) -> Result<Named, BuildErr>
     match name(alloc, &renamed) {
         Ok(named) => Ok(named),
         Err(_) => Err(BuildErr::NoMemory),
-    }
-}
-
-/// The named form of the program that a text is, if it passes no limit of the analysis.
-pub(crate) fn accepted(alloc: Global, source: &[u8]) -> Result<Named, BuildErr>
-    ensures read { IfOk result (λ named. IsRead source.now) }
-    ensures is_named { IfOk result IsNamed }
-    ensures few { IfOk result (λ named. passed (form named) ≡ None) }
-    ensures refused { IfErr result (λ error. Unanalysed source.now error) }
-{
-    let named = match named_of(alloc, source) {
-        Ok(named) => named,
-        Err(error) => return Err(error),
-    };
-    match constraints_of(alloc, &named) {
-        Ok(_constraints) => Ok(named),
-        Err(error) => Err(error),
     }
 }
 

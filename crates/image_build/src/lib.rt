@@ -10,6 +10,7 @@ mod back;
 mod codes;
 mod error;
 mod front;
+mod plan;
 
 pub use analysis::{Analysis, analyse};
 pub use back::build;
