@@ -1,5 +1,5 @@
 -- For each part of validity, cores that break it alone.
-use Rattle.std.proofs.Common.{◌≡◌, ℕ, suc, ◌<◌, List, [], ◌∷◌, ◌++◌, length, Some, None, refl, sym, ap, subst, true, false, ⊎_elim, inr, arith}
+use Rattle.std.proofs.Common.{rules, ◌≡◌, ℕ, suc, ◌<◌, List, [], ◌∷◌, ◌++◌, length, Some, None, refl, sym, ap, subst, true, false, ⊎_elim, inr, arith}
 use Rattle.std.specs.Prelude.{pos, slice_get, IsTrue}
 use Rattle.std.specs.List.{IsDistinct}
 use Rattle.std.proofs.lemmas.Option.{same_Some}
@@ -240,38 +240,10 @@ parts_too_far =
 -- A `set!` is found in each part of an expression, and not where the variable is bound again.
 
 assigned_in_parts : Parts (λ e. assigns same_var x e ≡ true) (Set here x (quote 5))
-assigned_in_parts =
-    record {
-      body = refl;
-      test = refl;
-      yes = refl;
-      no = refl;
-      value = refl;
-      operator = refl;
-      operand = refl;
-      operation = refl;
-      items = refl;
-      procedure = refl;
-      inner = refl;
-      defined = refl;
-    }
+assigned_in_parts = search rules
 
 not_assigned : Parts (λ e. assigns same_var y e ≡ false) (Set here x (quote 5))
-not_assigned =
-    record {
-      body = refl;
-      test = refl;
-      yes = refl;
-      no = refl;
-      value = refl;
-      operator = refl;
-      operand = refl;
-      operation = refl;
-      items = refl;
-      procedure = refl;
-      inner = refl;
-      defined = refl;
-    }
+not_assigned = search rules
 
 hidden :
     assigns same_var x (Lambda here (x ∷ []) None (Set here x (quote 0)))

@@ -2,12 +2,11 @@
 use Rattle.std.proofs.Common.{◌≡◌, ℕ, suc, ◌+◌, ◌-◌, ◌*◌, ◌^◌, length-append, ◌<◌, List, [], ◌∷◌, ◌++◌, length, Option, Some, refl, sym, ap, subst, ◌∙◌, arith, append_assoc, append-nil, Bor}
 use Rattle.std.specs.Prelude.{slice_get, codes, get_or}
 use Rattle.std.proofs.lemmas.Option.{slice_get_within, slice_get-get_or}
-use Rattle.std.specs.Fmt.{signed_decimal}
 use Rattle.scheme_base.specs.declared.lit.Lit.{Lit}
 use Rattle.scheme_base.specs.declared.lit.Lit.TheVariants as lit
 use Rattle.scheme_base.specs.declared.op.Op.{Op}
 use Rattle.scheme_base.specs.Operands.{name_of}
-use Rattle.scheme_base.specs.Constants.{Constant, Integer, Boolean, Character, Nil, Unspecified, Undefined, Symbol, String, Pair, Vector, Constants, none as no_constant, item as constant}
+use Rattle.scheme_base.specs.Constants.{Constant, Nil, Pair, Vector, Constants, none as no_constant, item as constant}
 use Rattle.scheme_base.specs.Literals.{Laid, LaidAll}
 use Rattle.scheme_base.proofs.Lists.{same_item, nil-cons, same_head, same_tail}
 use Rattle.core_form.specs.declared.program.Var.{Var}
@@ -18,9 +17,8 @@ use Rattle.core_form.specs.declared.program.What.TheVariants as expr
 use Rattle.core_form.specs.declared.piece.Piece.{Piece}
 use Rattle.core_form.specs.declared.piece.Piece.TheVariants.{Expr, Next, List as Listed, Rest, Literal, Tail, More, Close}
 use Rattle.core_form.specs.Trees.{Tree, Const, Ref, Lambda, If, Set, Call, Prim, Seq, Fix, Define, Trees, none, item, Stands, StandAll}
-use Rattle.scheme_base.specs.AtomText.{boolean_text, character_text, string_text}
-use Rattle.core_form.specs.Text.{constant_text, tail_text, items_text, more_text, dotted, IsLiteralText, var_text, vars_text, rest_text, IsText, IsListText}
-use Rattle.core_form.specs.Pieces.{ExprText, RestText, PieceText, StackText, Writes, LinesText}
+use Rattle.core_form.specs.Text.{constant_text, tail_text, items_text, more_text, dotted, IsLiteralText, var_text, vars_text, rest_text, IsText, IsListText, IsRestText}
+use Rattle.core_form.specs.Pieces.{ExprText, RestText, PieceText, StackText, Writes, LinesText, plain_text}
 
 abbrev pub ListText : Program Var → List ℕ → List ℕ → Type 0
 ListText core ids t = (es : Trees Var) × StandAll core.exprs ids es × IsListText core.lits es t
@@ -90,14 +88,10 @@ within core id t (e, s, h) = in_list core id e s where
   in_list : (c : Program Var) (i : ℕ) (f : Tree Var) → Stands c.exprs i f → i < length c.exprs
   in_list c i (Const p l) s = slice_get_within c.exprs i _ s
   in_list c i (Ref p x) s = slice_get_within c.exprs i _ s
-  in_list c i (Lambda p xs r b) s = slice_get_within c.exprs i _ s.1
   in_list c i (If p a b d) s = slice_get_within c.exprs i _ s.3
-  in_list c i (Set p x b) s = slice_get_within c.exprs i _ s.1
   in_list c i (Call p f es) s = slice_get_within c.exprs i _ s.2
-  in_list c i (Prim p o es) s = slice_get_within c.exprs i _ s.1
-  in_list c i (Seq p es) s = slice_get_within c.exprs i _ s.1
   in_list c i (Fix p xs ls b) s = slice_get_within c.exprs i _ s.2
-  in_list c i (Define p x b) s = slice_get_within c.exprs i _ s.1
+  in_list c i f s = slice_get_within c.exprs i _ s.1
 
 -- the parts of an expression that was read from the list
 pub read : (core : Program Var) (exprs : List (Node Var)) (id : ℕ) (d : Node Var) (what : What Var) (t : List ℕ)
@@ -135,14 +129,17 @@ pub ref_goes : (core : Program Var) (x : Var) (t rest : List ℕ) → PartsText 
     → GoesOn core (codes "(ref " ++ (var_text x ++ codes ")")) [] t rest
 ref_goes core x t rest h = (rest, refl, ap (λ y. y ++ rest) h)
 
+-- a piece, whose text follows a space, and then the end of the parentheses
+closes : (core : Program Var) (written : List ℕ) (piece : Piece) (u t rest : List ℕ) → PieceText core piece (32 ∷ u)
+    → t ++ rest ≡ written ++ (32 ∷ u ++ (41 ∷ rest)) → GoesOn core written (Close ∷ piece ∷ []) t rest
+closes core written piece u t rest has e = (32 ∷ u ++ (41 ∷ rest), (41 ∷ [], refl, (32 ∷ u, has, refl)), e)
+
 pub lambda_goes : (core : Program Var) (xs : List Var) (r : Option Var) (body : ℕ) (t rest : List ℕ)
     → PartsText core (expr.Lambda xs r body) t
     → GoesOn core (codes "(lambda " ++ (vars_text xs ++ (32 ∷ rest_text r))) (Close ∷ Next body ∷ []) t rest
-lambda_goes core xs r body t rest h = (
-  32 ∷ h.0 ++ (41 ∷ rest),
-  (41 ∷ [], refl, (32 ∷ h.0, spaced core body h.0 h.1, refl)),
-  ap (λ x. x ++ rest) h.2 ∙ simp (append_assoc) refl,
-)
+lambda_goes core xs r body t rest h =
+    closes core (codes "(lambda " ++ (vars_text xs ++ (32 ∷ rest_text r))) (Next body) h.0 t rest (spaced core body h.0 h.1)
+    (ap (λ x. x ++ rest) h.2 ∙ simp (append_assoc) refl)
 
 pub if_goes : (core : Program Var) (a b d : ℕ) (t rest : List ℕ) → PartsText core (expr.If a b d) t
     → GoesOn core (codes "(if") (Close ∷ Next d ∷ Next b ∷ Next a ∷ []) t rest
@@ -161,19 +158,15 @@ if_goes core a b d t rest h =
 
 pub set_goes : (core : Program Var) (x : Var) (a : ℕ) (t rest : List ℕ) → PartsText core (expr.Set x a) t
     → GoesOn core (codes "(set " ++ var_text x) (Close ∷ Next a ∷ []) t rest
-set_goes core x a t rest h = (
-  32 ∷ h.0 ++ (41 ∷ rest),
-  (41 ∷ [], refl, (32 ∷ h.0, spaced core a h.0 h.1, refl)),
-  ap (λ y. y ++ rest) h.2 ∙ simp (append_assoc) refl,
-)
+set_goes core x a t rest h =
+    closes core (codes "(set " ++ var_text x) (Next a) h.0 t rest (spaced core a h.0 h.1)
+    (ap (λ x. x ++ rest) h.2 ∙ simp (append_assoc) refl)
 
 pub define_goes : (core : Program Var) (x : Var) (a : ℕ) (t rest : List ℕ) → PartsText core (expr.Define x a) t
     → GoesOn core (codes "(define " ++ var_text x) (Close ∷ Next a ∷ []) t rest
-define_goes core x a t rest h = (
-  32 ∷ h.0 ++ (41 ∷ rest),
-  (41 ∷ [], refl, (32 ∷ h.0, spaced core a h.0 h.1, refl)),
-  ap (λ y. y ++ rest) h.2 ∙ simp (append_assoc) refl,
-)
+define_goes core x a t rest h =
+    closes core (codes "(define " ++ var_text x) (Next a) h.0 t rest (spaced core a h.0 h.1)
+    (ap (λ x. x ++ rest) h.2 ∙ simp (append_assoc) refl)
 
 -- the text of a space and expressions in parentheses
 listed : (core : Program Var) (r : Bor (List ℕ)) (u : List ℕ) → ListText core r.now u → PieceText core (Listed r) (32 ∷ u)
@@ -189,19 +182,15 @@ call_goes core f r t rest h = (
 
 pub prim_goes : (core : Program Var) (o : Op) (r : Bor (List ℕ)) (t rest : List ℕ) → PartsText core (expr.Prim o r.now) t
     → GoesOn core (codes "(prim " ++ name_of o) (Close ∷ Listed r ∷ []) t rest
-prim_goes core o r t rest h = (
-  32 ∷ h.0 ++ (41 ∷ rest),
-  (41 ∷ [], refl, (32 ∷ h.0, listed core r h.0 h.1, refl)),
-  ap (λ x. x ++ rest) h.2 ∙ simp (append_assoc) refl,
-)
+prim_goes core o r t rest h =
+    closes core (codes "(prim " ++ name_of o) (Listed r) h.0 t rest (listed core r h.0 h.1)
+    (ap (λ x. x ++ rest) h.2 ∙ simp (append_assoc) refl)
 
 pub seq_goes : (core : Program Var) (r : Bor (List ℕ)) (t rest : List ℕ) → PartsText core (expr.Seq r.now) t
     → GoesOn core (codes "(seq") (Close ∷ Listed r ∷ []) t rest
-seq_goes core r t rest h = (
-  32 ∷ h.0 ++ (41 ∷ rest),
-  (41 ∷ [], refl, (32 ∷ h.0, listed core r h.0 h.1, refl)),
-  ap (λ x. x ++ rest) h.2 ∙ simp (append_assoc) refl,
-)
+seq_goes core r t rest h =
+    closes core (codes "(seq") (Listed r) h.0 t rest (listed core r h.0 h.1)
+    (ap (λ x. x ++ rest) h.2 ∙ simp (append_assoc) refl)
 
 pub fix_goes : (core : Program Var) (xs : List Var) (r : Bor (List ℕ)) (a : ℕ) (t rest : List ℕ)
     → PartsText core (expr.Fix xs r.now a) t
@@ -222,21 +211,25 @@ pub rest_ends : (core : Program Var) (ids t rest : List ℕ) → length ids ≡ 
 rest_ends core ids t rest e (none, s, h) = (rest, refl, ap (λ x. x ++ rest) h)
 rest_ends core ids t rest e (item f es, s, h) = absurd (nil-cons s.0 s.1 (sym (empty ids e) ∙ s.2))
 
-pub rest_goes : (core : Program Var) (ids t rest : List ℕ) (first : ℕ) (r : Bor (List ℕ)) → ids ≡ first ∷ r.now
-    → RestText core ids t → GoesOn core (32 ∷ []) (Rest r ∷ Expr first ∷ []) t rest
-rest_goes core ids t rest first r e (none, s, h) = absurd (nil-cons first r.now (sym s ∙ e))
-rest_goes core ids t rest first r e (item f es, s, h) =
+-- the first expression and the others
+exprs_go : (core : Program Var) (written ids t rest : List ℕ) (first : ℕ) (r : Bor (List ℕ)) (f : Tree Var)
+    (es : Trees Var) (u v : List ℕ) → ids ≡ first ∷ r.now → StandAll core.exprs ids (item f es)
+    → IsText core.lits f u → IsRestText core.lits es v → t ++ rest ≡ written ++ (u ++ (v ++ rest))
+    → GoesOn core written (Rest r ∷ Expr first ∷ []) t rest
+exprs_go core written ids t rest first r f es u v e s one_text others_text whole =
     let same = sym s.2 ∙ e in
     let one : Stands core.exprs first f =
     subst (λ i. Stands core.exprs i f) (same_head s.0 first s.1 r.now same) s.3
     in
     let others : StandAll core.exprs r.now es =
     subst (λ is. StandAll core.exprs is es) (same_tail s.0 first s.1 r.now same) s.4
-    in (
-      h.0 ++ (h.1 ++ rest),
-      (h.1, (es, others, h.3), (h.0, (f, one, h.2), refl)),
-      ap (λ x. x ++ rest) h.4 ∙ simp (append_assoc) refl,
-    )
+    in (u ++ (v ++ rest), (v, (es, others, others_text), (u, (f, one, one_text), refl)), whole)
+
+pub rest_goes : (core : Program Var) (ids t rest : List ℕ) (first : ℕ) (r : Bor (List ℕ)) → ids ≡ first ∷ r.now
+    → RestText core ids t → GoesOn core (32 ∷ []) (Rest r ∷ Expr first ∷ []) t rest
+rest_goes core ids t rest first r e (none, s, h) = absurd (nil-cons first r.now (sym s ∙ e))
+rest_goes core ids t rest first r e (item f es, s, h) =
+    exprs_go core (32 ∷ []) ids t rest first r f es h.0 h.1 e s h.2 h.3 (ap (λ x. x ++ rest) h.4 ∙ simp (append_assoc) refl)
 
 pub list_ends : (core : Program Var) (r : Bor (List ℕ)) (t rest : List ℕ) → length r.now ≡ 0 → PieceText core (Listed r) t
     → GoesOn core (codes " ()") [] t rest
@@ -247,17 +240,8 @@ pub list_goes : (core : Program Var) (l : Bor (List ℕ)) (t rest : List ℕ) (f
     → PieceText core (Listed l) t → GoesOn core (codes " (") (Rest r ∷ Expr first ∷ []) t rest
 list_goes core l t rest first r e (none, u, s, h, k) = absurd (nil-cons first r.now (sym s ∙ e))
 list_goes core l t rest first r e (item f es, u, s, h, k) =
-    let same = sym s.2 ∙ e in
-    let one : Stands core.exprs first f =
-    subst (λ i. Stands core.exprs i f) (same_head s.0 first s.1 r.now same) s.3
-    in
-    let others : StandAll core.exprs r.now es =
-    subst (λ is. StandAll core.exprs is es) (same_tail s.0 first s.1 r.now same) s.4
-    in (
-      h.0 ++ (h.1 ++ rest),
-      (h.1, (es, others, h.3), (h.0, (f, one, h.2), refl)),
-      ap (λ x. x ++ rest) (k ∙ ap (λ y. 32 ∷ y) h.4) ∙ simp (append_assoc) refl,
-    )
+    exprs_go core (codes " (") l.now t rest first r f es h.0 h.1 e s h.2 h.3
+    (ap (λ x. x ++ rest) (k ∙ ap (λ y. 32 ∷ y) h.4) ∙ simp (append_assoc) refl)
 
 pub next_goes : (core : Program Var) (id : ℕ) (t rest : List ℕ) → PieceText core (Next id) t
     → GoesOn core (32 ∷ []) (Expr id ∷ []) t rest
@@ -267,18 +251,6 @@ pub close_goes : (core : Program Var) (t rest : List ℕ) → PieceText core Clo
 close_goes core t rest h = (rest, refl, ap (λ x. x ++ rest) h)
 
 -- Literals
-
--- the text of a literal that has no parts
-abbrev pub plain_text : Lit → List ℕ
-plain_text (lit.Integer z) = signed_decimal z
-plain_text (lit.Boolean b) = boolean_text b
-plain_text (lit.Char byte) = character_text byte
-plain_text lit.Nil = codes "()"
-plain_text lit.Unspecified = codes "#<unspecified>"
-plain_text lit.Undefined = codes "#<undefined>"
-plain_text (lit.Symbol name) = name
-plain_text (lit.Text bytes) = string_text bytes
-plain_text l = []
 
 -- the text of a literal by its parts
 abbrev pub LitText : Program Var → Lit → List ℕ → Type 0
@@ -290,39 +262,25 @@ LitText core l t = t ≡ plain_text l
 
 pub lit_parts : (core : Program Var) (id : ℕ) (l : Lit) (t : List ℕ) → slice_get core.lits id ≡ Some l
     → IsLiteralText core.lits id t → LitText core l t
-lit_parts core id l t got (Integer z, j, laid, e) =
-    subst (λ k. LitText core k t) (same_item (slice_get core.lits id) _ l laid.0 got) e
-lit_parts core id l t got (Boolean b, j, laid, e) =
-    subst (λ k. LitText core k t) (same_item (slice_get core.lits id) _ l laid.0 got) e
-lit_parts core id l t got (Character b, j, laid, e) =
-    subst (λ k. LitText core k t) (same_item (slice_get core.lits id) _ l laid.0 got) e
-lit_parts core id l t got (Nil, j, laid, e) =
-    subst (λ k. LitText core k t) (same_item (slice_get core.lits id) _ l laid.0 got) e
-lit_parts core id l t got (Unspecified, j, laid, e) =
-    subst (λ k. LitText core k t) (same_item (slice_get core.lits id) _ l laid.0 got) e
-lit_parts core id l t got (Undefined, j, laid, e) =
-    subst (λ k. LitText core k t) (same_item (slice_get core.lits id) _ l laid.0 got) e
-lit_parts core id l t got (Symbol name, j, laid, e) =
-    subst (λ k. LitText core k t) (same_item (slice_get core.lits id) _ l laid.0 got) e
-lit_parts core id l t got (String bytes, j, laid, e) =
-    subst (λ k. LitText core k t) (same_item (slice_get core.lits id) _ l laid.0 got) e
 lit_parts core id l t got (Pair a d, j, laid, e) =
     subst (λ k. LitText core k t) (same_item (slice_get core.lits id) _ l laid.1 got)
     (constant_text a, tail_text d, (a, laid.0, laid.2, refl), (d, j, laid.3, refl), e)
 lit_parts core id l t got (Vector cs, j, laid, e) =
     subst (λ k. LitText core k t) (same_item (slice_get core.lits id) _ l laid.1 got) (suc id, cs, j, laid.2, e)
+lit_parts core id l t got (c, j, laid, e) =
+    subst (λ k. LitText core k t) (same_item (slice_get core.lits id) _ l laid.0 got) e
+
+-- a literal that has no parts
+pub no_parts : (core : Program Var) (l : Lit) (t : List ℕ) → ((a d : ℕ) → l ≡ lit.Pair a d → ⊥)
+    → ((ids : List ℕ) → l ≡ lit.Vector ids → ⊥) → LitText core l t → t ≡ plain_text l
+no_parts core (lit.Pair a d) t pair vector h = absurd (pair a d refl)
+no_parts core (lit.Vector ids) t pair vector h = absurd (vector ids refl)
+no_parts core l t pair vector h = h
 
 lit_within : (core : Program Var) (id : ℕ) (c : Constant) (j : ℕ) → Laid core.lits id c j → id < length core.lits
-lit_within core id (Integer z) j laid = slice_get_within core.lits id _ laid.0
-lit_within core id (Boolean b) j laid = slice_get_within core.lits id _ laid.0
-lit_within core id (Character b) j laid = slice_get_within core.lits id _ laid.0
-lit_within core id Nil j laid = slice_get_within core.lits id _ laid.0
-lit_within core id Unspecified j laid = slice_get_within core.lits id _ laid.0
-lit_within core id Undefined j laid = slice_get_within core.lits id _ laid.0
-lit_within core id (Symbol name) j laid = slice_get_within core.lits id _ laid.0
-lit_within core id (String bytes) j laid = slice_get_within core.lits id _ laid.0
 lit_within core id (Pair a d) j laid = slice_get_within core.lits id _ laid.1
 lit_within core id (Vector cs) j laid = slice_get_within core.lits id _ laid.1
+lit_within core id c j laid = slice_get_within core.lits id _ laid.0
 
 -- a literal that was read from the list
 got_lit : (core : Program Var) (lits : List Lit) (id : ℕ) (d l : Lit) → lits ≡ core.lits → d ≡ get_or lits id d → d ≡ l
@@ -352,10 +310,12 @@ pub row_ends : (core : Program Var) (ids t rest : List ℕ) → length ids ≡ 0
 row_ends core ids t rest e (i, no_constant, j, all, h) = (rest, refl, ap (λ x. x ++ rest) h)
 row_ends core ids t rest e (i, constant c cs, j, all, h) = absurd (nil-cons i all.0 (sym (empty ids e) ∙ all.2))
 
-pub row_goes : (core : Program Var) (ids t rest : List ℕ) (first : ℕ) (r : Bor (List ℕ)) → ids ≡ first ∷ r.now
-    → LitText core (lit.Vector ids) t → GoesOn core (codes "#(") (More r ∷ Literal first ∷ []) t rest
-row_goes core ids t rest first r e (i, no_constant, j, all, h) = absurd (nil-cons first r.now (sym all.0 ∙ e))
-row_goes core ids t rest first r e (i, constant c cs, j, all, h) =
+-- the first constant and the others
+constants_go : (core : Program Var) (written ids t rest : List ℕ) (first : ℕ) (r : Bor (List ℕ)) (i : ℕ) (c : Constant)
+    (cs : Constants) (j : ℕ) → ids ≡ first ∷ r.now → LaidAll core.lits ids i (constant c cs) j
+    → t ++ rest ≡ written ++ (constant_text c ++ (more_text cs ++ rest))
+    → GoesOn core written (More r ∷ Literal first ∷ []) t rest
+constants_go core written ids t rest first r i c cs j e all whole =
     let same = sym all.2 ∙ e in
     let one : Laid core.lits first c all.1 =
     subst (λ k. Laid core.lits k c all.1) (same_head i first all.0 r.now same) all.3
@@ -365,8 +325,14 @@ row_goes core ids t rest first r e (i, constant c cs, j, all, h) =
     in (
       constant_text c ++ (more_text cs ++ rest),
       (more_text cs, (all.1, cs, j, others, refl), (constant_text c, (c, all.1, one, refl), refl)),
-      ap (λ x. x ++ rest) h ∙ simp (append_assoc) refl,
+      whole,
     )
+
+pub row_goes : (core : Program Var) (ids t rest : List ℕ) (first : ℕ) (r : Bor (List ℕ)) → ids ≡ first ∷ r.now
+    → LitText core (lit.Vector ids) t → GoesOn core (codes "#(") (More r ∷ Literal first ∷ []) t rest
+row_goes core ids t rest first r e (i, no_constant, j, all, h) = absurd (nil-cons first r.now (sym all.0 ∙ e))
+row_goes core ids t rest first r e (i, constant c cs, j, all, h) =
+    constants_go core (codes "#(") ids t rest first r i c cs j e all (ap (λ x. x ++ rest) h ∙ simp (append_assoc) refl)
 
 pub more_ends : (core : Program Var) (r : Bor (List ℕ)) (t rest : List ℕ) → length r.now ≡ 0 → PieceText core (More r) t
     → GoesOn core (41 ∷ []) [] t rest
@@ -377,17 +343,7 @@ pub more_goes : (core : Program Var) (l : Bor (List ℕ)) (t rest : List ℕ) (f
     → PieceText core (More l) t → GoesOn core (32 ∷ []) (More r ∷ Literal first ∷ []) t rest
 more_goes core l t rest first r e (i, no_constant, j, all, h) = absurd (nil-cons first r.now (sym all.0 ∙ e))
 more_goes core l t rest first r e (i, constant c cs, j, all, h) =
-    let same = sym all.2 ∙ e in
-    let one : Laid core.lits first c all.1 =
-    subst (λ k. Laid core.lits k c all.1) (same_head i first all.0 r.now same) all.3
-    in
-    let others : LaidAll core.lits r.now all.1 cs j =
-    subst (λ is. LaidAll core.lits is all.1 cs j) (same_tail i first all.0 r.now same) all.4
-    in (
-      constant_text c ++ (more_text cs ++ rest),
-      (more_text cs, (all.1, cs, j, others, refl), (constant_text c, (c, all.1, one, refl), refl)),
-      ap (λ x. x ++ rest) h ∙ simp (append_assoc) refl,
-    )
+    constants_go core (32 ∷ []) l.now t rest first r i c cs j e all (ap (λ x. x ++ rest) h ∙ simp (append_assoc) refl)
 
 -- What follows an item of a list
 
@@ -403,35 +359,17 @@ TailText core id l t = DottedText core id t
 
 pub tail_parts : (core : Program Var) (id : ℕ) (l : Lit) (t : List ℕ) → slice_get core.lits id ≡ Some l
     → PieceText core (Tail id) t → TailText core id l t
-tail_parts core id l t got (Integer z, j, laid, e) =
-    subst (λ k. TailText core id k t) (same_item (slice_get core.lits id) _ l laid.0 got)
-    (constant_text (Integer z), (Integer z, j, laid, refl), e)
-tail_parts core id l t got (Boolean b, j, laid, e) =
-    subst (λ k. TailText core id k t) (same_item (slice_get core.lits id) _ l laid.0 got)
-    (constant_text (Boolean b), (Boolean b, j, laid, refl), e)
-tail_parts core id l t got (Character b, j, laid, e) =
-    subst (λ k. TailText core id k t) (same_item (slice_get core.lits id) _ l laid.0 got)
-    (constant_text (Character b), (Character b, j, laid, refl), e)
 tail_parts core id l t got (Nil, j, laid, e) =
     subst (λ k. TailText core id k t) (same_item (slice_get core.lits id) _ l laid.0 got) e
-tail_parts core id l t got (Unspecified, j, laid, e) =
-    subst (λ k. TailText core id k t) (same_item (slice_get core.lits id) _ l laid.0 got)
-    (constant_text Unspecified, (Unspecified, j, laid, refl), e)
-tail_parts core id l t got (Undefined, j, laid, e) =
-    subst (λ k. TailText core id k t) (same_item (slice_get core.lits id) _ l laid.0 got)
-    (constant_text Undefined, (Undefined, j, laid, refl), e)
-tail_parts core id l t got (Symbol name, j, laid, e) =
-    subst (λ k. TailText core id k t) (same_item (slice_get core.lits id) _ l laid.0 got)
-    (constant_text (Symbol name), (Symbol name, j, laid, refl), e)
-tail_parts core id l t got (String bytes, j, laid, e) =
-    subst (λ k. TailText core id k t) (same_item (slice_get core.lits id) _ l laid.0 got)
-    (constant_text (String bytes), (String bytes, j, laid, refl), e)
 tail_parts core id l t got (Pair a d, j, laid, e) =
     subst (λ k. TailText core id k t) (same_item (slice_get core.lits id) _ l laid.1 got)
     (constant_text a, tail_text d, (a, laid.0, laid.2, refl), (d, j, laid.3, refl), e)
 tail_parts core id l t got (Vector cs, j, laid, e) =
     subst (λ k. TailText core id k t) (same_item (slice_get core.lits id) _ l laid.1 got)
     (constant_text (Vector cs), (Vector cs, j, laid, refl), e)
+tail_parts core id l t got (c, j, laid, e) =
+    subst (λ k. TailText core id k t) (same_item (slice_get core.lits id) _ l laid.0 got)
+    (constant_text c, (c, j, laid, refl), e)
 
 pub tail_read : (core : Program Var) (lits : List Lit) (id : ℕ) (d l : Lit) (t : List ℕ) → lits ≡ core.lits
     → d ≡ get_or lits id d → d ≡ l → PieceText core (Tail id) t → TailText core id l t

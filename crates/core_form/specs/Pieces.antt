@@ -1,5 +1,9 @@
 -- Pieces of a core's text, in the order in which they wait to be written: the last one of a stack is next.
 use Rattle.std.specs.Prelude.{ℕ, ◌*◌, ◌≤◌, ◌≡◌, List, [], ◌∷◌, ◌++◌, length, codes}
+use Rattle.std.specs.Fmt.{signed_decimal}
+use Rattle.scheme_base.specs.declared.lit.Lit.{Lit}
+use Rattle.scheme_base.specs.declared.lit.Lit.TheVariants as lit
+use Rattle.scheme_base.specs.AtomText.{boolean_text, character_text, string_text}
 use Rattle.core_form.specs.declared.program.Var.{Var}
 use Rattle.core_form.specs.declared.program.Program.{Program}
 use Rattle.core_form.specs.declared.piece.Piece.{Piece}
@@ -14,6 +18,18 @@ ExprText core id t = (e : Tree Var) × Stands core.exprs id e × IsText core.lit
 
 abbrev pub RestText : Program Var → List ℕ → List ℕ → Type 0
 RestText core ids t = (es : Trees Var) × StandAll core.exprs ids es × IsRestText core.lits es t
+
+-- the text of a literal that has no parts
+abbrev pub plain_text : Lit → List ℕ
+plain_text (lit.Integer z) = signed_decimal z
+plain_text (lit.Boolean b) = boolean_text b
+plain_text (lit.Char byte) = character_text byte
+plain_text lit.Nil = codes "()"
+plain_text lit.Unspecified = codes "#<unspecified>"
+plain_text lit.Undefined = codes "#<undefined>"
+plain_text (lit.Symbol name) = name
+plain_text (lit.Text bytes) = string_text bytes
+plain_text l = []
 
 -- the text of a piece
 abbrev pub PieceText : Program Var → Piece → List ℕ → Type 0

@@ -1,6 +1,6 @@
-ghost use Rattle.std.specs.Prelude.{List, ℕ, OnOk};
+ghost use Rattle.std.specs.Prelude.{List, ℕ, OnOk, ◌≡◌, ◌++◌};
 ghost use Rattle.core_form.specs.declared.piece.Piece.TheVariants.{Literal, Tail, More};
-ghost use Rattle.core_form.specs.Pieces.{PieceText, Writes};
+ghost use Rattle.core_form.specs.Pieces.{PieceText, Writes, plain_text};
 
 use crate::Core;
 use crate::piece::Piece;
@@ -18,14 +18,6 @@ pub(crate) fn write_literal<'a>(
     ensures { OnOk result (Writes core.now (Literal lit) stack.old.items stack.new.items text.old.items text.new.items) }
 {
     match &core.lits.as_slice()[lit as usize] {
-        Lit::Integer(value) => write_integer(*value, text)?,
-        Lit::Boolean(value) => write_boolean(*value, text)?,
-        Lit::Char(byte) => write_character(*byte, text)?,
-        Lit::Nil => text.extend_from_slice(b"()")?,
-        Lit::Unspecified => text.extend_from_slice(b"#<unspecified>")?,
-        Lit::Undefined => text.extend_from_slice(b"#<undefined>")?,
-        Lit::Symbol(name) => text.extend_from_slice(name.as_slice())?,
-        Lit::Text(bytes) => write_string(bytes.as_slice(), text)?,
         Lit::Pair(car, cdr) => {
             text.push(b'(')?;
             stack.extend_from_slice(&[Piece::Tail(*cdr), Piece::Literal(*car)])?;
@@ -39,6 +31,25 @@ pub(crate) fn write_literal<'a>(
                 }
             }
         }
+        plain => write_plain(plain, text)?,
+    }
+    Ok(())
+}
+
+/// Writes a literal that has no parts, and nothing of one that has some.
+fn write_plain(lit: &Lit, text: &mut Vec<u8>) -> Result<(), AllocError>
+    ensures { OnOk result (text.new.items ≡ text.old.items ++ plain_text lit.now) }
+{
+    match lit {
+        Lit::Integer(value) => write_integer(*value, text)?,
+        Lit::Boolean(value) => write_boolean(*value, text)?,
+        Lit::Char(byte) => write_character(*byte, text)?,
+        Lit::Nil => text.extend_from_slice(b"()")?,
+        Lit::Unspecified => text.extend_from_slice(b"#<unspecified>")?,
+        Lit::Undefined => text.extend_from_slice(b"#<undefined>")?,
+        Lit::Symbol(name) => text.extend_from_slice(name.as_slice())?,
+        Lit::Text(bytes) => write_string(bytes.as_slice(), text)?,
+        Lit::Pair(_, _) | Lit::Vector(_) => {}
     }
     Ok(())
 }

@@ -16,7 +16,7 @@ use Rattle.datum_form.specs.Grammar.IsSign.{unsigned, minus}
 use Rattle.datum_form.specs.Grammar.IsWord.{dot, true_word, false_word, number, name}
 use Rattle.datum_form.specs.Grammar.IsCharacter.{itself, space, newline}
 use Rattle.datum_form.specs.Grammar.IsString.{empty, plain, escaped_quote, escaped_backslash}
-use Rattle.datum_form.specs.Grammar.IsToken.{opens, opens_vector, closes, quote, quasiquote, splice, unquote, string, character, word}
+use Rattle.datum_form.specs.Grammar.IsToken.{string, character, word}
 use Rattle.datum_form.specs.Print.{atom_text}
 use Rattle.datum_form.specs.declared.token.Token.{Token}
 use Rattle.datum_form.specs.declared.token.Atom.{Atom}
@@ -318,14 +318,6 @@ word_valid p small t u l (number q w z h r) = r
 word_valid p small t u l (name q w h) = (h, u, l)
 
 pub token_valid : (p : Pos) (bytes after : List ℕ) (t : Token) → IsToken p bytes after t → ValidToken t
-token_valid p bytes after t (opens q a) = tt
-token_valid p bytes after t (opens_vector q a) = tt
-token_valid p bytes after t (closes q a) = tt
-token_valid p bytes after t (quote q a) = tt
-token_valid p bytes after t (quasiquote q a) = tt
-token_valid p bytes after t (splice q a) = tt
-token_valid p bytes after t (unquote q a h) = tt
-token_valid p bytes after t (string q a text read h) = tt
-token_valid p bytes after t (character q a b more c u d h) = tt
 token_valid p bytes after t (word q a w v u d h) =
     word_valid p (str_to_ascii_lowercase bytes) t (lower_undelimited bytes u) (lower_twice bytes) h
+token_valid p bytes after t is = tt

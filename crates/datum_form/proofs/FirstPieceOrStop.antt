@@ -70,15 +70,15 @@ tells_word : (p : Pos) (text : List ℕ)
     → Tells p text (word_piece (small_word p (str_to_ascii_lowercase (take (run_length text) text))) (run_length text))
 tells_word p text =
     let r = run_of text in
-    let count : run_length text ≡ length r.run =
-    ap (λ l. run_length l) r.whole ∙ run_length-append r.run r.after r.undelimited r.delimited in
-    let read : take (run_length text) text ≡ r.run =
-    ap (λ k. take k text) count ∙ (ap (take (length r.run)) r.whole ∙ take-append_seam r.run r.after) in
-    let is : Word = small_word p (str_to_ascii_lowercase r.run) in
-    same_piece p text (word_piece is (length r.run))
+    let count : run_length text ≡ length r.front =
+    ap (λ l. run_length l) r.whole ∙ run_length-append r.front r.after r.within r.behind in
+    let read : take (run_length text) text ≡ r.front =
+    ap (λ k. take k text) count ∙ (ap (take (length r.front)) r.whole ∙ take-append_seam r.front r.after) in
+    let is : Word = small_word p (str_to_ascii_lowercase r.front) in
+    same_piece p text (word_piece is (length r.front))
     (word_piece (small_word p (str_to_ascii_lowercase (take (run_length text) text))) (run_length text))
     (ap (λ l. word_piece (small_word p (str_to_ascii_lowercase l)) (run_length text)) read ∙ ap (word_piece is) count)
-    (tells_run p text r.run r.after is r.whole r.undelimited r.delimited refl)
+    (tells_run p text r.front r.after is r.whole r.within r.behind refl)
 
 tells_named : (p : Pos) (b : ℕ) (run after : List ℕ) (w : Word) → Undelimited run → Delimited after
     → character_word p (35 ∷ 92 ∷ b ∷ run) ≡ w
@@ -97,10 +97,10 @@ tells_character p [] = bad p (35 ∷ 92 ∷ [])
 tells_character p (b ∷ rest) =
     let text : List ℕ = 35 ∷ 92 ∷ b ∷ rest in
     let r = run_of rest in
-    let start : List ℕ = 35 ∷ 92 ∷ b ∷ r.run in
+    let start : List ℕ = 35 ∷ 92 ∷ b ∷ r.front in
     let whole : text ≡ start ++ r.after = ap (λ l. 35 ∷ 92 ∷ b ∷ l) r.whole in
-    let length_run : run_length rest ≡ length r.run =
-    ap (λ l. run_length l) r.whole ∙ run_length-append r.run r.after r.undelimited r.delimited in
+    let length_run : run_length rest ≡ length r.front =
+    ap (λ l. run_length l) r.whole ∙ run_length-append r.front r.after r.within r.behind in
     let count : 3 + run_length rest ≡ length start = omega (arith, length_run) in
     let read : take (3 + run_length rest) text ≡ start =
     ap (λ k. take k text) count ∙ (ap (take (length start)) whole ∙ take-append_seam start r.after) in
@@ -109,7 +109,7 @@ tells_character p (b ∷ rest) =
     subst P (sym whole)
     (same_piece p (start ++ r.after) (word_piece is (length start)) (character_piece p text)
     (ap (λ l. word_piece (character_word p l) (3 + run_length rest)) read ∙ ap (word_piece is) count)
-    (tells_named p b r.run r.after is r.undelimited r.delimited refl))
+    (tells_named p b r.front r.after is r.within r.behind refl))
 
 tells_string : (p : Pos) (rest : List ℕ) (q : Quoted) → quoted false rest ≡ q → Tells p (34 ∷ rest) (string_piece p q)
 tells_string p rest (Closed bytes k) h =

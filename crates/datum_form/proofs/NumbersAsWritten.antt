@@ -93,26 +93,14 @@ few r prefix (radix_first s radix exactness hr he) = few_of r radix hr
 few r prefix (exactness_first s exactness radix he hr) = few_of r radix hr
 
 prefixed : (r : ℕ) (prefix body : List ℕ) → IsPrefix r prefix → Bare body → number (prefix ++ body) ≡ signed r body
-prefixed r prefix body (radix_first s radix exactness binary unmarked) n = rw n.e refl
-prefixed r prefix body (radix_first s radix exactness octal unmarked) n = rw n.e refl
 prefixed r prefix body (radix_first s radix exactness decimal unmarked) n = plain body n
-prefixed r prefix body (radix_first s radix exactness marked_decimal unmarked) n = rw n.e refl
-prefixed r prefix body (radix_first s radix exactness hexadecimal unmarked) n = rw n.e refl
-prefixed r prefix body (radix_first s radix exactness binary exact) n = refl
-prefixed r prefix body (radix_first s radix exactness octal exact) n = refl
+prefixed r prefix body (radix_first s radix exactness marked unmarked) n = rw n.e refl
 prefixed r prefix body (radix_first s radix exactness decimal exact) n = after_exact_mark body n
-prefixed r prefix body (radix_first s radix exactness marked_decimal exact) n = refl
-prefixed r prefix body (radix_first s radix exactness hexadecimal exact) n = refl
-prefixed r prefix body (exactness_first s exactness radix unmarked binary) n = rw n.e refl
-prefixed r prefix body (exactness_first s exactness radix unmarked octal) n = rw n.e refl
+prefixed r prefix body (radix_first s radix exactness marked exact) n = refl
 prefixed r prefix body (exactness_first s exactness radix unmarked decimal) n = plain body n
-prefixed r prefix body (exactness_first s exactness radix unmarked marked_decimal) n = rw n.e refl
-prefixed r prefix body (exactness_first s exactness radix unmarked hexadecimal) n = rw n.e refl
-prefixed r prefix body (exactness_first s exactness radix exact binary) n = refl
-prefixed r prefix body (exactness_first s exactness radix exact octal) n = refl
+prefixed r prefix body (exactness_first s exactness radix unmarked marked) n = rw n.e refl
 prefixed r prefix body (exactness_first s exactness radix exact decimal) n = after_exact_mark body n
-prefixed r prefix body (exactness_first s exactness radix exact marked_decimal) n = refl
-prefixed r prefix body (exactness_first s exactness radix exact hexadecimal) n = refl
+prefixed r prefix body (exactness_first s exactness radix exact marked) n = refl
 
 pub number_read : (word : List ℕ) (z : ℤ) → IsNumber word z → number word ≡ Some z
 number_read word z h =
@@ -159,6 +147,21 @@ record Signed (r : ℕ) (text : List ℕ) (z : ℤ) : Type 0 where
   whole : text ≡ sign ++ number
   is : z ≡ with_sign negative value
 
+parts : (r : ℕ) (text : List ℕ) (z : ℤ) (negative : Bool) (sign number : List ℕ) → IsSign negative sign
+    → text ≡ sign ++ number → option_map (with_sign negative) (digits r number) ≡ Some z → Signed r text z
+parts r text z negative sign number has whole h =
+    let v = value_of (with_sign negative) (digits r number) z h in
+    record {
+      negative = negative;
+      sign = sign;
+      number = number;
+      value = v.0;
+      has_sign = has;
+      has_value = v.1;
+      whole = whole;
+      is = v.2;
+    }
+
 signed_parts : (r : ℕ) (text : List ℕ) (z : ℤ) → signed r text ≡ Some z → Signed r text z
 signed_parts r text z e = at (begins_with text (codes "-")) (begins_with text (codes "+")) refl refl e
   where
@@ -166,42 +169,9 @@ signed_parts r text z e = at (begins_with text (codes "-")) (begins_with text (c
         → cond m (option_map (λ n. neg_ℤ (pos n)) (digits r (drop 1 text)))
         (cond p (option_map (λ n. pos n) (digits r (drop 1 text))) (option_map (λ n. pos n) (digits r text))) ≡ Some z
         → Signed r text z
-    at true p hm hp h =
-        let v = value_of (λ n. neg_ℤ (pos n)) (digits r (drop 1 text)) z h in
-        record {
-          negative = true;
-          sign = codes "-";
-          number = drop 1 text;
-          value = v.0;
-          has_sign = minus;
-          has_value = v.1;
-          whole = begins_one text 45 hm;
-          is = v.2;
-        }
-    at false true hm hp h =
-        let v = value_of (λ n. pos n) (digits r (drop 1 text)) z h in
-        record {
-          negative = false;
-          sign = codes "+";
-          number = drop 1 text;
-          value = v.0;
-          has_sign = plus;
-          has_value = v.1;
-          whole = begins_one text 43 hp;
-          is = v.2;
-        }
-    at false false hm hp h =
-        let v = value_of (λ n. pos n) (digits r text) z h in
-        record {
-          negative = false;
-          sign = [];
-          number = text;
-          value = v.0;
-          has_sign = unsigned;
-          has_value = v.1;
-          whole = refl;
-          is = v.2;
-        }
+    at true p hm hp h = parts r text z true (codes "-") (drop 1 text) minus (begins_one text 45 hm) h
+    at false true hm hp h = parts r text z false (codes "+") (drop 1 text) plus (begins_one text 43 hp) h
+    at false false hm hp h = parts r text z false [] text unsigned refl h
 
 record RadixPart (text : List ℕ) (r : ℕ) (after : List ℕ) : Type 0 where
   radix : List ℕ

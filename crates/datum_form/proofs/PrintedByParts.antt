@@ -36,34 +36,34 @@ pub same_bytes : (nodes : Seq Node) (parts : Seq Part) (bytes more : Seq ℕ) �
 same_bytes nodes parts bytes more e h = let P : Seq ℕ → Type 0 = λ b. Pending nodes parts b in subst P e h
 
 -- one item more before the others
-pub other_pushed : (nodes : Seq Node) (parts all : Seq Part) (id : ℕ) (done : Seq ℕ) (is : Items) (rest : Seq ℕ)
-    → all ≡ parts ++ part.Next id ∷ [] → StandAll nodes (id ∷ done) is
-    → ((js : Items) → StandAll nodes done js → Pending nodes parts (more_text js ++ rest))
-    → Pending nodes all (more_text is ++ rest)
-other_pushed nodes parts all id done none rest e h more = absurd (cc)
-other_pushed nodes parts all id done (item d js) rest e h more =
+item_pushed : (nodes : Seq Node) (parts all : Seq Part) (p : Part) (id : ℕ) (done : Seq ℕ) (d : Datum) (js : Items)
+    (one rest : Seq ℕ) → all ≡ parts ++ p ∷ [] → (Stands nodes id d → Prints nodes p one)
+    → StandAll nodes (id ∷ done) (item d js) → (StandAll nodes done js → Pending nodes parts (more_text js ++ rest))
+    → Pending nodes all ((one ++ more_text js) ++ rest)
+item_pushed nodes parts all p id done d js one rest e prints h more =
     let same : h.0 ≡ id = cc in
     let others : h.1 ≡ done = cc in
     let P : ℕ → Type 0 = λ i. Stands nodes i d in
     let Q : Seq ℕ → Type 0 = λ ids. StandAll nodes ids js in
-    let one : Seq ℕ = codes " " ++ text_of d in
-    same_bytes nodes all (one ++ (more_text js ++ rest)) (more_text (item d js) ++ rest)
+    same_bytes nodes all (one ++ (more_text js ++ rest)) ((one ++ more_text js) ++ rest)
     (sym (append_assoc one (more_text js) rest))
-    (pushed nodes parts all (part.Next id) one (more_text js ++ rest) e (d, subst P same h.3, refl) (more js (subst Q others h.4)))
+    (pushed nodes parts all p one (more_text js ++ rest) e (prints (subst P same h.3)) (more (subst Q others h.4)))
+
+pub other_pushed : (nodes : Seq Node) (parts all : Seq Part) (id : ℕ) (done : Seq ℕ) (is : Items) (rest : Seq ℕ)
+    → all ≡ parts ++ part.Next id ∷ [] → StandAll nodes (id ∷ done) is
+    → ((js : Items) → StandAll nodes done js → Pending nodes parts (more_text js ++ rest))
+    → Pending nodes all (more_text is ++ rest)
+other_pushed nodes parts all id done (item d js) rest e h more =
+    item_pushed nodes parts all (part.Next id) id done d js (codes " " ++ text_of d) rest e (λ s. (d, s, refl)) h (more js)
+other_pushed nodes parts all id done none rest e h more = absurd (cc)
 
 pub items_pushed : (nodes : Seq Node) (parts all : Seq Part) (id : ℕ) (done : Seq ℕ) (is : Items) (rest : Seq ℕ)
     → all ≡ parts ++ part.Datum id ∷ [] → StandAll nodes (id ∷ done) is
     → ((js : Items) → StandAll nodes done js → Pending nodes parts (more_text js ++ rest))
     → Pending nodes all (items_text is ++ rest)
-items_pushed nodes parts all id done none rest e h more = absurd (cc)
 items_pushed nodes parts all id done (item d js) rest e h more =
-    let same : h.0 ≡ id = cc in
-    let others : h.1 ≡ done = cc in
-    let P : ℕ → Type 0 = λ i. Stands nodes i d in
-    let Q : Seq ℕ → Type 0 = λ ids. StandAll nodes ids js in
-    same_bytes nodes all (text_of d ++ (more_text js ++ rest)) (items_text (item d js) ++ rest)
-    (sym (append_assoc (text_of d) (more_text js) rest))
-    (pushed nodes parts all (part.Datum id) (text_of d) (more_text js ++ rest) e (d, subst P same h.3, refl) (more js (subst Q others h.4)))
+    item_pushed nodes parts all (part.Datum id) id done d js (text_of d) rest e (λ s. (d, s, refl)) h (more js)
+items_pushed nodes parts all id done none rest e h more = absurd (cc)
 
 pub no_items : (nodes : Seq Node) (parts : Seq Part) (ids : Seq ℕ) (is : Items) (rest : Seq ℕ) → ids ≡ []
     → StandAll nodes ids is → Pending nodes parts rest → Pending nodes parts (items_text is ++ rest)

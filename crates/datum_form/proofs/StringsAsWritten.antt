@@ -160,34 +160,29 @@ one_byte b n text bytes q s w r =
       count = omega (arith, w.count, r.count);
     }
 
+escaped : (b k n : ℕ) (text bytes : List ℕ) (w : WithByte b (quoted false text) bytes n) → Strung text w.read w.k → b ≡ k
+    → ((body read : List ℕ) → IsString body read → IsString (92 ∷ k ∷ body) (k ∷ read))
+    → Strung (92 ∷ b ∷ text) bytes (n + 1)
+escaped b k n text bytes w r is adds =
+    let P : List ℕ → Type 0 = λ l. IsString (92 ∷ k ∷ r.body) l in
+    record {
+      body = 92 ∷ k ∷ r.body;
+      rest = r.rest;
+      whole = ap (λ c. 92 ∷ c ∷ text) is ∙ ap (λ l. 92 ∷ k ∷ l) r.whole;
+      has = subst P (sym (w.same ∙ ap (λ c. c ∷ w.read) is)) (adds r.body w.read r.has);
+      count = omega (arith, w.count, r.count);
+    }
+
 one_escape : (b n : ℕ) (text bytes : List ℕ) (x y : Bool) → (b == 34) ≡ x → (b == 92) ≡ y
     → cond (x || y) (with_byte b (quoted false text)) (with_bad_escape (quoted false text)) ≡ Closed bytes n
     → ((read : List ℕ) (k : ℕ) → quoted false text ≡ Closed read k → Strung text read k)
     → Strung (92 ∷ b ∷ text) bytes (n + 1)
 one_escape b n text bytes true y hx hy e more =
     let w = with_byte_is b (quoted false text) bytes n e in
-    let r = more w.read w.k w.is in
-    let is : b ≡ 34 = same_byte b 34 hx in
-    let P : List ℕ → Type 0 = λ l. IsString (92 ∷ 34 ∷ r.body) l in
-    record {
-      body = 92 ∷ 34 ∷ r.body;
-      rest = r.rest;
-      whole = ap (λ c. 92 ∷ c ∷ text) is ∙ ap (λ l. 92 ∷ 34 ∷ l) r.whole;
-      has = subst P (sym (w.same ∙ ap (λ c. c ∷ w.read) is)) (escaped_quote r.body w.read r.has);
-      count = omega (arith, w.count, r.count);
-    }
+    escaped b 34 n text bytes w (more w.read w.k w.is) (same_byte b 34 hx) escaped_quote
 one_escape b n text bytes false true hx hy e more =
     let w = with_byte_is b (quoted false text) bytes n e in
-    let r = more w.read w.k w.is in
-    let is : b ≡ 92 = same_byte b 92 hy in
-    let P : List ℕ → Type 0 = λ l. IsString (92 ∷ 92 ∷ r.body) l in
-    record {
-      body = 92 ∷ 92 ∷ r.body;
-      rest = r.rest;
-      whole = ap (λ c. 92 ∷ c ∷ text) is ∙ ap (λ l. 92 ∷ 92 ∷ l) r.whole;
-      has = subst P (sym (w.same ∙ ap (λ c. c ∷ w.read) is)) (escaped_backslash r.body w.read r.has);
-      count = omega (arith, w.count, r.count);
-    }
+    escaped b 92 n text bytes w (more w.read w.k w.is) (same_byte b 92 hy) escaped_backslash
 one_escape b n text bytes false false hx hy e more = absurd (bad_escape_is (quoted false text) bytes n e)
 
 never : (bytes : List ℕ) (n : ℕ) → NeverClosed ≡ Closed bytes n → ⊥

@@ -44,27 +44,28 @@ run_length-append (b ∷ run) after r d =
     length_while-step (λ c. not (is_delimiter c)) b (run ++ after) (ap not r.0)
     ∙ ap (λ n. suc n) (run_length-append run after r.1 d)
 
--- the bytes up to the first delimiter
-pub record Run (text : List ℕ) : Type 0 where
-  pub run : List ℕ
+-- the front of a text, up to where something else begins
+pub record Cut (Within Behind : List ℕ → Type 0) (text : List ℕ) : Type 0 where
+  pub front : List ℕ
   pub after : List ℕ
-  pub whole : text ≡ run ++ after
-  pub undelimited : Undelimited run
-  pub delimited : Delimited after
+  pub whole : text ≡ front ++ after
+  pub within : Within front
+  pub behind : Behind after
 
-pub run_of : (text : List ℕ) → Run text
-run_of [] = record { run = []; after = []; whole = refl; undelimited = tt; delimited = tt }
+-- the bytes up to the first delimiter
+pub run_of : (text : List ℕ) → Cut Undelimited Delimited text
+run_of [] = record { front = []; after = []; whole = refl; within = tt; behind = tt }
 run_of (b ∷ bytes) = at (is_delimiter b) refl (run_of bytes)
   where
-    at : (d : Bool) → is_delimiter b ≡ d → Run bytes → Run (b ∷ bytes)
-    at true h r = record { run = []; after = b ∷ bytes; whole = refl; undelimited = tt; delimited = h }
+    at : (d : Bool) → is_delimiter b ≡ d → Cut Undelimited Delimited bytes → Cut Undelimited Delimited (b ∷ bytes)
+    at true h r = record { front = []; after = b ∷ bytes; whole = refl; within = tt; behind = h }
     at false h r =
         record {
-          run = b ∷ r.run;
+          front = b ∷ r.front;
           after = r.after;
           whole = ap (λ l. b ∷ l) r.whole;
-          undelimited = (h, r.undelimited);
-          delimited = r.delimited;
+          within = (h, r.within);
+          behind = r.behind;
         }
 
 -- Each token is the first piece of what it begins

@@ -46,27 +46,27 @@ StaysOpen n (Dot p) ts = ⊥
 StaysOpen n (Marking p m) ts = ts ≡ []
 StaysOpen n (Atomic p a) ts = ⊥
 
--- a token at this place, up to which a text can still come, fits no text
-pub record Strays (n : ℕ) (ts : List Token) (p : Pos) : Type 0 where
+-- a token, up to which a text can still come
+pub record Reached (n : ℕ) (ts : List Token) : Type 0 where
   pub front : List Token
   pub token : Token
   pub more : List Token
   pub whole : ts ≡ front ++ token ∷ more
   pub begins : Begins n front
-  pub stops : (m : ℕ) → Begins m (front ++ token ∷ []) → ⊥
-  pub place : p ≡ place_of token
 
--- a token at this place, up to which a text can still come, fits only texts that are nested deeper
+-- one at this place fits no text
+pub record Strays (n : ℕ) (ts : List Token) (p : Pos) : Type 0 where
+  pub at : Reached n ts
+  pub stops : (m : ℕ) → Begins m (at.front ++ at.token ∷ []) → ⊥
+  pub place : p ≡ place_of at.token
+
+-- one at this place fits only texts that are nested deeper
 pub record Deepens (n : ℕ) (ts : List Token) (p : Pos) : Type 0 where
-  pub front : List Token
-  pub token : Token
-  pub more : List Token
-  pub whole : ts ≡ front ++ token ∷ more
-  pub begins : Begins n front
-  pub stops : Begins n (front ++ token ∷ []) → ⊥
+  pub at : Reached n ts
+  pub stops : Begins n (at.front ++ at.token ∷ []) → ⊥
   pub depth : ℕ
-  pub deeper : Begins depth (front ++ token ∷ [])
-  pub place : p ≡ place_of token
+  pub deeper : Begins depth (at.front ++ at.token ∷ [])
+  pub place : p ≡ place_of at.token
 
 -- all the tokens begin a text, and the innermost list, vector or mark that is still open has this place
 pub record Unclosed (n : ℕ) (ts : List Token) (p : Pos) : Type 0 where

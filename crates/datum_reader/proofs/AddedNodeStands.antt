@@ -1,6 +1,7 @@
 -- A node that is added stands for its datum.
-use Rattle.std.proofs.Common.{◌≡◌, ℕ, List as Seq, [], ◌∷◌, ◌++◌, Option, Some, None, length, refl, sym, ap, subst, ◌∙◌, append_assoc}
+use Rattle.std.proofs.Common.{◌≡◌, ℕ, ◌<◌, get_or, List as Seq, [], ◌∷◌, ◌++◌, Option, Some, None, length, refl, sym, ap, subst, ◌∙◌, append_assoc}
 use Rattle.std.specs.Prelude.{slice_get}
+use Rattle.std.proofs.lemmas.Option.{slice_get_read}
 use Rattle.scheme_base.specs.declared.pos.Pos.{Pos}
 use Rattle.datum_form.specs.declared.datums.Node.{Node}
 use Rattle.datum_form.specs.declared.datums.Kind.{Kind}
@@ -23,6 +24,12 @@ use Rattle.datum_reader.specs.Nodes.{Builds, append, tailed}
 pub at_length : (nodes : Seq Node) (x : Node) → slice_get (nodes ++ x ∷ []) (length nodes) ≡ Some x
 at_length [] x = refl
 at_length (n ∷ nodes) x = at_length nodes x
+
+-- a node that was read from a table of these nodes
+pub node_at : (nodes table : Seq Node) (i : ℕ) (read : Node) → i < length nodes → read ≡ get_or table i read
+    → table ≡ nodes → slice_get nodes i ≡ Some (get_or table i read)
+node_at nodes table i read there is same =
+    slice_get_read nodes (length nodes) i read refl there (is ∙ ap (λ ns. get_or ns i read) same) ∙ ap Some is
 
 pub is_node : (before after : Seq Node) (id : ℕ) (k : Kind) (p : Pos) → id ≡ length before
     → after ≡ before ++ record { kind = k; pos = p } ∷ [] → IsNode after id k p
@@ -111,6 +118,31 @@ same_kind k l p q e = ap kind_in e
     kind_in (Some n) = n.kind
     kind_in None = k
 
+-- a list with a constant behind it
+dotted_builds : (before after : Seq Node) (id tail : ℕ) (ids : Seq ℕ) (is : Items) (d : Datum) (p : Pos)
+    → id ≡ length before → after ≡ before ++ record { kind = kind.List ids (Some tail); pos = p } ∷ []
+    → StandAll before ids is → Stands before tail d → Builds before after id (datum.Dotted p is d)
+dotted_builds before after id tail ids is d p number added h k =
+    record {
+      more = record { kind = kind.List ids (Some tail); pos = p } ∷ [];
+      whole = added;
+      stands = (
+        ids,
+        tail,
+        is_node before after id (kind.List ids (Some tail)) p number added,
+        all_grown before after _ ids is added h,
+        one_grown before after _ tail d added k,
+      );
+    }
+
+-- the same list with its end written otherwise
+ended_as : (before after : Seq Node) (ids : Seq ℕ) (end other : Option ℕ) (p : Pos) → other ≡ end
+    → after ≡ before ++ record { kind = kind.List ids end; pos = p } ∷ []
+    → after ≡ before ++ record { kind = kind.List ids other; pos = p } ∷ []
+ended_as before after ids end other p same added =
+    let P : Option ℕ → Type 0 = λ e. after ≡ before ++ record { kind = kind.List ids e; pos = p } ∷ [] in
+    subst P (sym same) added
+
 -- a tail that is a list
 pub joins : (before after : Seq Node) (id tail : ℕ) (ids more : Seq ℕ) (end : Option ℕ) (is : Items) (d : Datum) (p q : Pos)
     → id ≡ length before
@@ -129,35 +161,15 @@ joins before after id tail ids more end is (datum.List r js) p q number added at
     let ids_same : k.0 ≡ more = cc in
     let end_same : None ≡ end = cc in
     let P : Seq ℕ → Type 0 = λ xs. StandAll before xs js in
-    let Q : Option ℕ → Type 0 = λ e. IsNode after id (kind.List (ids ++ more) e) p in
-    record {
-      more = record { kind = kind.List (ids ++ more) end; pos = p } ∷ [];
-      whole = added;
-      stands = (
-        ids ++ more,
-        subst Q (sym end_same) (is_node before after id (kind.List (ids ++ more) end) p number added),
-        all_grown before after _ (ids ++ more) (append is js) added
-            (all_append before ids more is js h (subst P ids_same k.2)),
-      );
-    }
+    list_builds before after id (ids ++ more) (append is js) p number
+    (ended_as before after (ids ++ more) end None p end_same added) (all_append before ids more is js h (subst P ids_same k.2))
 joins before after id tail ids more end is (datum.Dotted r js t) p q number added at h k =
     let same : kind.List k.0 (Some k.1) ≡ kind.List more end = same_kind _ _ _ _ (sym k.2 ∙ at) in
     let ids_same : k.0 ≡ more = cc in
-    let end_same : Some k.1 ≡ end = cc in
     let P : Seq ℕ → Type 0 = λ xs. StandAll before xs js in
-    let Q : Option ℕ → Type 0 = λ e. IsNode after id (kind.List (ids ++ more) e) p in
-    record {
-      more = record { kind = kind.List (ids ++ more) end; pos = p } ∷ [];
-      whole = added;
-      stands = (
-        ids ++ more,
-        k.1,
-        subst Q (sym end_same) (is_node before after id (kind.List (ids ++ more) end) p number added),
-        all_grown before after _ (ids ++ more) (append is js) added
-            (all_append before ids more is js h (subst P ids_same k.3)),
-        one_grown before after _ k.1 t added k.4,
-      );
-    }
+    dotted_builds before after id k.1 (ids ++ more) (append is js) t p number
+    (ended_as before after (ids ++ more) end (Some k.1) p (cc) added)
+    (all_append before ids more is js h (subst P ids_same k.3)) k.4
 
 -- a tail that is no list
 pub stays_dotted : (before after : Seq Node) (id tail : ℕ) (ids : Seq ℕ) (is : Items) (d : Datum) (p : Pos)
@@ -169,29 +181,9 @@ stays_dotted before after id tail ids is (datum.List r js) p number added other 
 stays_dotted before after id tail ids is (datum.Dotted r js t) p number added other h k =
     absurd (other k.0 (Some k.1) r k.2)
 stays_dotted before after id tail ids is (datum.Atomic r a) p number added other h k =
-    record {
-      more = record { kind = kind.List ids (Some tail); pos = p } ∷ [];
-      whole = added;
-      stands = (
-        ids,
-        tail,
-        is_node before after id (kind.List ids (Some tail)) p number added,
-        all_grown before after _ ids is added h,
-        one_grown before after _ tail (datum.Atomic r a) added k,
-      );
-    }
+    dotted_builds before after id tail ids is (datum.Atomic r a) p number added h k
 stays_dotted before after id tail ids is (datum.Vector r js) p number added other h k =
-    record {
-      more = record { kind = kind.List ids (Some tail); pos = p } ∷ [];
-      whole = added;
-      stands = (
-        ids,
-        tail,
-        is_node before after id (kind.List ids (Some tail)) p number added,
-        all_grown before after _ ids is added h,
-        one_grown before after _ tail (datum.Vector r js) added k,
-      );
-    }
+    dotted_builds before after id tail ids is (datum.Vector r js) p number added h k
 
 -- What a list, a dotted list and a vector are
 

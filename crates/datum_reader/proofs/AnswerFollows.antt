@@ -4,18 +4,21 @@ use Rattle.scheme_base.specs.declared.pos.Pos.{Pos}
 use Rattle.datum_form.specs.declared.datums.Datums.{Datums}
 use Rattle.datum_form.specs.Data.{Items, data_of}
 use Rattle.datum_form.specs.declared.token.Token.{Token}
-use Rattle.datum_form.specs.Syntax.{Syntax}
-use Rattle.datum_form.specs.Text.{Lexed, lexed}
+use Rattle.datum_form.specs.Syntax.{Syntax, place_of}
+use Rattle.datum_form.specs.Text.{Ending, Lexed, lexed}
 use Rattle.datum_form.specs.Text.Ending.{Clean}
 use Rattle.datum_reader.specs.declared.error.ReadErr.{ReadErr}
 use Rattle.datum_reader.specs.declared.error.ReadErr.TheVariants.{Unclosed, Stray, BadToken, NumberRange, TooDeep, TooLong, NoMemory}
+use Rattle.datum_reader.specs.declared.lexer.Next.{Next}
+use Rattle.datum_reader.specs.declared.lexer.Next.TheVariants.{Token as NextToken}
 use Rattle.datum_reader.specs.declared.lexer.Spot.{Spot}
 use Rattle.datum_reader.specs.declared.reading.Reading.{Reading}
+use Rattle.datum_reader.specs.declared.reading.Taken.{Taken}
 use Rattle.datum_reader.specs.Answer.{max_length, max_depth, Reads, ReadFault, Answers, AreData, OrNoMemory}
-use Rattle.datum_reader.specs.Lexing.{lexed_at, token_then, ends}
+use Rattle.datum_reader.specs.Lexing.{Scans, lexed_at, token_then, ends}
 use Rattle.datum_reader.specs.Machine.{Frame, Run, step, run, start}
 use Rattle.datum_reader.specs.Machine.Run.{On, Stray as StrayRun, Deep as DeepRun}
-use Rattle.datum_reader.specs.Reading.{IsAt, IsReading, Finishes}
+use Rattle.datum_reader.specs.Reading.{Follows, Holds, IsAt, IsReading, Finishes}
 use Rattle.datum_reader.proofs.WholeTreesAreRead.{text_run}
 use Rattle.datum_reader.proofs.OneAnswer.{scanned, told, short_told, answered, data_told, some_answer, none_or_some, some_same, same_data, same_fault, data_or_fault}
 
@@ -112,23 +115,32 @@ goes_on lex reading next spot after t p e at =
       ending = p.ending ∙ ap (λ l. l.ending) e;
     }
 
-pub stray_read : (text : Seq ℕ) (reading : Reading) (spot after : Spot) (t : Token) (q : Pos)
-    (p : Pending (lexed text) reading spot) → length text ≤ max_length
-    → lexed_at spot ≡ token_then t (lexed_at after) → step p.state.room p.state.frames p.state.trees t ≡ StrayRun q
-    → ReadFault text (Stray q)
-stray_read text reading spot after t q p short e stops =
-    fault_read text (Stray q) short
-    (told_then (lexed text) (token_then t (lexed_at after)) reading spot p e
-    ∙ ap (λ r. told_left r (lexed_at after)) stops)
+-- where no token comes any more, the answer is what this end tells
+pub stop_read : (text : Seq ℕ) (reading : Reading) (spot : Spot) (end : Ending) (e : ReadErr) {x y : Next}
+    (p : Pending (lexed text) reading spot) → length text ≤ max_length → Scans spot x → x ≡ y
+    → (Scans spot y → lexed_at spot ≡ ends end)
+    → told_left (On p.state.room p.state.frames p.state.trees) (ends end) ≡ Some e → ReadFault text e
+stop_read text reading spot end e p short scans is at tells =
+    fault_read text e short
+    (told_then (lexed text) (ends end) reading spot p (at (subst (Scans spot) is scans)) ∙ tells)
 
-pub deep_read : (text : Seq ℕ) (reading : Reading) (spot after : Spot) (t : Token) (q : Pos)
-    (p : Pending (lexed text) reading spot) → length text ≤ max_length
-    → lexed_at spot ≡ token_then t (lexed_at after) → step p.state.room p.state.frames p.state.trees t ≡ DeepRun q
-    → ReadFault text (TooDeep q)
-deep_read text reading spot after t q p short e stops =
-    fault_read text (TooDeep q) short
-    (told_then (lexed text) (token_then t (lexed_at after)) reading spot p e
-    ∙ ap (λ r. told_left r (lexed_at after)) stops)
+-- and where a token is refused, what the machine tells of it
+pub refused_read : (text : Seq ℕ) (reading next : Reading) (spot after : Spot) (t : Token) (e : Pos → ReadErr)
+    (stops : Pos → Run) (q : Pos) {x : Next} {u v : Taken} (p : Pending (lexed text) reading spot)
+    → length text ≤ max_length → Scans spot x → x ≡ NextToken t after → q ≡ place_of t → u ≡ v
+    → ((n : ℕ) (fs : Seq Frame) (us : Seq Syntax) → Holds reading n fs us → Follows u next (place_of t) (step n fs us t))
+    → ((r : Run) → Follows v next (place_of t) r → r ≡ stops (place_of t))
+    → told_left (stops (place_of t)) (lexed_at after) ≡ Some (e (place_of t)) → ReadFault text (e q)
+refused_read text reading next spot after t e stops q p short scans is place taken follows at tells =
+    let s = p.state in
+    let end : Run = step s.room s.frames s.trees t in
+    let F : Taken → Type 0 = λ w. Follows w next (place_of t) end in
+    let P : Pos → Type 0 = λ r. ReadFault text (e r) in
+    subst P (sym place)
+    (fault_read text (e (place_of t)) short
+    (told_then (lexed text) (token_then t (lexed_at after)) reading spot p (subst (Scans spot) is scans)
+    ∙ (ap (λ r. told_left r (lexed_at after)) (at end (subst F taken (follows s.room s.frames s.trees s.holds)))
+    ∙ tells)))
 
 pub all_read : (text : Seq ℕ) (answer : Result Datums ReadErr) (reading : Reading) (spot : Spot)
     (p : Pending (lexed text) reading spot) → length text ≤ max_length → lexed_at spot ≡ ends Clean

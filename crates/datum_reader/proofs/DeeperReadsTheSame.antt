@@ -9,7 +9,7 @@ use Rattle.datum_form.specs.Syntax.Syntax.{Leaf, Marked, Nil, Listed, Vector}
 use Rattle.datum_form.specs.Syntax.Rest.{End, Tail}
 use Rattle.datum_form.specs.Syntax.Elements.{Last}
 use Rattle.datum_reader.specs.Machine.{Frame, Run, rest_of, elements_of, room, give, in_room, open_one, dot, shut, step, run}
-use Rattle.datum_reader.specs.Machine.Frame.{Opened, Listing, Dotted, Tailed, InVector, Waiting}
+use Rattle.datum_reader.specs.Machine.Frame.{Opened, Listing, Tailed, InVector, Waiting}
 use Rattle.datum_reader.specs.Machine.Run.{On, Stray, Deep}
 
 -- Readings
@@ -53,13 +53,8 @@ lift (Deep p) = Deep p
 
 lift_give : (fs : List Frame) (n : ℕ) (tops : List Syntax) (s : Syntax)
     → give (suc n) fs tops s ≡ lift (give n fs tops s)
-lift_give [] n tops s = refl
-lift_give (Opened p ∷ fs) n tops s = refl
-lift_give (Listing p a is ∷ fs) n tops s = refl
-lift_give (Dotted p a is d ∷ fs) n tops s = refl
-lift_give (Tailed p a is d t ∷ fs) n tops s = refl
-lift_give (InVector p is ∷ fs) n tops s = refl
 lift_give (Waiting p m ∷ fs) n tops s = lift_give fs (suc n) tops (Marked p m s)
+lift_give fs n tops s = refl
 
 lift_open : (n : ℕ) (f : Frame) (fs : List Frame) (tops : List Syntax) (p : Pos) → NotDeep (open_one n f fs tops p)
     → open_one (suc n) f fs tops p ≡ lift (open_one n f fs tops p)
@@ -71,38 +66,31 @@ lift_room : (b : Bool) (p : Pos) (r deeper : Run) → (NotDeep r → deeper ≡ 
 lift_room true p r deeper e h = e h
 lift_room false p r deeper e h = refl
 
+lift_opener : (n : ℕ) (f : Frame) (fs : List Frame) (tops : List Syntax) (p : Pos)
+    → NotDeep (in_room (room fs) p (open_one n f fs tops p))
+    → in_room (room fs) p (open_one (suc n) f fs tops p) ≡ lift (in_room (room fs) p (open_one n f fs tops p))
+lift_opener n f fs tops p h =
+    lift_room (room fs) p (open_one n f fs tops p) (open_one (suc n) f fs tops p) (lift_open n f fs tops p) h
+
 lift_dot : (fs : List Frame) (n : ℕ) (tops : List Syntax) (q : Pos) → dot (suc n) fs tops q ≡ lift (dot n fs tops q)
-lift_dot [] n tops q = refl
-lift_dot (Opened p ∷ fs) n tops q = refl
 lift_dot (Listing p a is ∷ fs) n tops q = refl
-lift_dot (Dotted p a is d ∷ fs) n tops q = refl
-lift_dot (Tailed p a is d t ∷ fs) n tops q = refl
-lift_dot (InVector p is ∷ fs) n tops q = refl
-lift_dot (Waiting p m ∷ fs) n tops q = refl
+lift_dot fs n tops q = refl
 
 lift_shut : (fs : List Frame) (n : ℕ) (tops : List Syntax) (q : Pos)
     → shut (suc n) fs tops q ≡ lift (shut n fs tops q)
-lift_shut [] n tops q = refl
 lift_shut (Opened p ∷ fs) n tops q = lift_give fs (suc n) tops (Nil p q)
 lift_shut (Listing p a is ∷ fs) n tops q = lift_give fs (suc n) tops (Listed p a (rest_of is End) q)
-lift_shut (Dotted p a is d ∷ fs) n tops q = refl
 lift_shut (Tailed p a is d t ∷ fs) n tops q = lift_give fs (suc n) tops (Listed p a (rest_of is (Tail d t)) q)
 lift_shut (InVector p is ∷ fs) n tops q = lift_give fs (suc n) tops (Vector p (elements_of is Last) q)
-lift_shut (Waiting p m ∷ fs) n tops q = refl
+lift_shut fs n tops q = refl
 
 lift_step : (t : Token) (n : ℕ) (fs : List Frame) (tops : List Syntax) → NotDeep (step n fs tops t)
     → step (suc n) fs tops t ≡ lift (step n fs tops t)
-lift_step (Open p) n fs tops h =
-    lift_room (room fs) p (open_one n (Opened p) fs tops p) (open_one (suc n) (Opened p) fs tops p)
-    (lift_open n (Opened p) fs tops p) h
-lift_step (OpenVector p) n fs tops h =
-    lift_room (room fs) p (open_one n (InVector p []) fs tops p) (open_one (suc n) (InVector p []) fs tops p)
-    (lift_open n (InVector p []) fs tops p) h
+lift_step (Open p) n fs tops h = lift_opener n (Opened p) fs tops p h
+lift_step (OpenVector p) n fs tops h = lift_opener n (InVector p []) fs tops p h
 lift_step (Close q) n fs tops h = lift_shut fs n tops q
 lift_step (Dot q) n fs tops h = lift_dot fs n tops q
-lift_step (Marking p m) n fs tops h =
-    lift_room (room fs) p (open_one n (Waiting p m) fs tops p) (open_one (suc n) (Waiting p m) fs tops p)
-    (lift_open n (Waiting p m) fs tops p) h
+lift_step (Marking p m) n fs tops h = lift_opener n (Waiting p m) fs tops p h
 lift_step (Atomic p a) n fs tops h =
     lift_room (room fs) p (give n fs tops (Leaf p a)) (give (suc n) fs tops (Leaf p a))
     (λ _. lift_give fs n tops (Leaf p a)) h
@@ -168,13 +156,8 @@ raise_run (suc k) r ts h =
 -- One level too many
 
 give_on : (fs : List Frame) (n : ℕ) (tops : List Syntax) (s : Syntax) → IsOn (give n fs tops s)
-give_on [] n tops s = tt
-give_on (Opened p ∷ fs) n tops s = tt
-give_on (Listing p a is ∷ fs) n tops s = tt
-give_on (Dotted p a is d ∷ fs) n tops s = tt
-give_on (Tailed p a is d t ∷ fs) n tops s = tt
-give_on (InVector p is ∷ fs) n tops s = tt
 give_on (Waiting p m ∷ fs) n tops s = give_on fs (suc n) tops (Marked p m s)
+give_on fs n tops s = tt
 
 on_or_deep : (r : Run) → IsOn r → TooDeep r → ⊥
 on_or_deep (On n fs tops) h k = k
@@ -191,41 +174,33 @@ deep_open : (n : ℕ) (f : Frame) (fs : List Frame) (tops : List Syntax) (p : Po
 deep_open zero f fs tops p h = tt
 deep_open (suc n) f fs tops p h = tt
 
+deep_opener : (n : ℕ) (f : Frame) (fs : List Frame) (tops : List Syntax) (p : Pos)
+    → TooDeep (in_room (room fs) p (open_one n f fs tops p)) → IsOn (in_room (room fs) p (open_one (suc n) f fs tops p))
+deep_opener n f fs tops p h =
+    deep_room (room fs) p (open_one n f fs tops p) (open_one (suc n) f fs tops p) (deep_open n f fs tops p) h
+
 deep_dot : (fs : List Frame) (n : ℕ) (tops : List Syntax) (q : Pos) → TooDeep (dot n fs tops q) → ⊥
-deep_dot [] n tops q h = h
-deep_dot (Opened p ∷ fs) n tops q h = h
 deep_dot (Listing p a is ∷ fs) n tops q h = h
-deep_dot (Dotted p a is d ∷ fs) n tops q h = h
-deep_dot (Tailed p a is d t ∷ fs) n tops q h = h
-deep_dot (InVector p is ∷ fs) n tops q h = h
-deep_dot (Waiting p m ∷ fs) n tops q h = h
+deep_dot fs n tops q h = h
 
 deep_give : (fs : List Frame) (n : ℕ) (tops : List Syntax) (s : Syntax) → TooDeep (give n fs tops s) → ⊥
 deep_give fs n tops s h = on_or_deep (give n fs tops s) (give_on fs n tops s) h
 
 deep_shut : (fs : List Frame) (n : ℕ) (tops : List Syntax) (q : Pos) → TooDeep (shut n fs tops q) → ⊥
-deep_shut [] n tops q h = h
 deep_shut (Opened p ∷ fs) n tops q h = deep_give fs (suc n) tops (Nil p q) h
 deep_shut (Listing p a is ∷ fs) n tops q h = deep_give fs (suc n) tops (Listed p a (rest_of is End) q) h
-deep_shut (Dotted p a is d ∷ fs) n tops q h = h
 deep_shut (Tailed p a is d t ∷ fs) n tops q h = deep_give fs (suc n) tops (Listed p a (rest_of is (Tail d t)) q) h
 deep_shut (InVector p is ∷ fs) n tops q h = deep_give fs (suc n) tops (Vector p (elements_of is Last) q) h
-deep_shut (Waiting p m ∷ fs) n tops q h = h
+deep_shut fs n tops q h = h
 
 -- with one level more, the token is read
 pub deep_step : (t : Token) (n : ℕ) (fs : List Frame) (tops : List Syntax) → TooDeep (step n fs tops t)
     → IsOn (step (suc n) fs tops t)
-deep_step (Open p) n fs tops h =
-    deep_room (room fs) p (open_one n (Opened p) fs tops p) (open_one (suc n) (Opened p) fs tops p)
-    (deep_open n (Opened p) fs tops p) h
-deep_step (OpenVector p) n fs tops h =
-    deep_room (room fs) p (open_one n (InVector p []) fs tops p) (open_one (suc n) (InVector p []) fs tops p)
-    (deep_open n (InVector p []) fs tops p) h
+deep_step (Open p) n fs tops h = deep_opener n (Opened p) fs tops p h
+deep_step (OpenVector p) n fs tops h = deep_opener n (InVector p []) fs tops p h
 deep_step (Close q) n fs tops h = absurd (deep_shut fs n tops q h)
 deep_step (Dot q) n fs tops h = absurd (deep_dot fs n tops q h)
-deep_step (Marking p m) n fs tops h =
-    deep_room (room fs) p (open_one n (Waiting p m) fs tops p) (open_one (suc n) (Waiting p m) fs tops p)
-    (deep_open n (Waiting p m) fs tops p) h
+deep_step (Marking p m) n fs tops h = deep_opener n (Waiting p m) fs tops p h
 deep_step (Atomic p a) n fs tops h =
     deep_room (room fs) p (give n fs tops (Leaf p a)) (give (suc n) fs tops (Leaf p a))
     (λ deep. absurd (deep_give fs n tops (Leaf p a) deep)) h
@@ -252,25 +227,18 @@ at_on (Stray p) q h = absurd h
 at_on (Deep p) q h = absurd h
 
 at_dot : (fs : List Frame) (n : ℕ) (tops : List Syntax) (q : Pos) → AtPlace q (dot n fs tops q)
-at_dot [] n tops q = refl
-at_dot (Opened p ∷ fs) n tops q = refl
 at_dot (Listing p a is ∷ fs) n tops q = tt
-at_dot (Dotted p a is d ∷ fs) n tops q = refl
-at_dot (Tailed p a is d t ∷ fs) n tops q = refl
-at_dot (InVector p is ∷ fs) n tops q = refl
-at_dot (Waiting p m ∷ fs) n tops q = refl
+at_dot fs n tops q = refl
 
 at_give : (fs : List Frame) (n : ℕ) (tops : List Syntax) (s : Syntax) (q : Pos) → AtPlace q (give n fs tops s)
 at_give fs n tops s q = at_on (give n fs tops s) q (give_on fs n tops s)
 
 at_shut : (fs : List Frame) (n : ℕ) (tops : List Syntax) (q : Pos) → AtPlace q (shut n fs tops q)
-at_shut [] n tops q = refl
 at_shut (Opened p ∷ fs) n tops q = at_give fs (suc n) tops (Nil p q) q
 at_shut (Listing p a is ∷ fs) n tops q = at_give fs (suc n) tops (Listed p a (rest_of is End) q) q
-at_shut (Dotted p a is d ∷ fs) n tops q = refl
 at_shut (Tailed p a is d t ∷ fs) n tops q = at_give fs (suc n) tops (Listed p a (rest_of is (Tail d t)) q) q
 at_shut (InVector p is ∷ fs) n tops q = at_give fs (suc n) tops (Vector p (elements_of is Last) q) q
-at_shut (Waiting p m ∷ fs) n tops q = refl
+at_shut fs n tops q = refl
 
 pub at_step : (t : Token) (n : ℕ) (fs : List Frame) (tops : List Syntax) → AtPlace (place_of t) (step n fs tops t)
 at_step (Open p) n fs tops = at_room (room fs) p (open_one n (Opened p) fs tops p) (at_open n (Opened p) fs tops p)

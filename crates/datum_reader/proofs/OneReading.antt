@@ -5,7 +5,7 @@ use Rattle.scheme_base.specs.declared.pos.Pos.{Pos}
 use Rattle.datum_form.specs.declared.token.Token.{Token}
 use Rattle.datum_form.specs.Syntax.{Syntax, written, written_all, WithinAll, IsText, Begins, place_of}
 use Rattle.datum_form.specs.declared.token.Token.TheVariants.{Open, OpenVector, Close, Dot, Marking, Atomic}
-use Rattle.datum_form.specs.Faults.{Inside, written_inside, WithinInside, InsideList, InsideVector, StaysOpen, Strays, Deepens, Fault, HasFault}
+use Rattle.datum_form.specs.Faults.{Inside, written_inside, WithinInside, InsideList, InsideVector, StaysOpen, Reached, Strays, Deepens, Fault, HasFault}
 use Rattle.datum_form.specs.Faults.Inside.{Items, Dotted as DottedIn, Tailed as TailedIn}
 use Rattle.datum_form.specs.Faults.Fault.{IsStray, IsDeep, IsUnclosed}
 use Rattle.datum_reader.specs.Machine.{Frame, Run, frame_place, room, in_room, open_one, step, run, start}
@@ -101,6 +101,18 @@ at_end (f ∷ fs) n m tops ts good =
       },
     )
 
+-- where the reading goes on up to a token, it is reached
+abbrev reached : (n m : ℕ) (fs : List Frame) (tops : List Syntax) (front : List Token) (t : Token) (more : List Token)
+    → run (start n) front ≡ On m fs tops → Reached n (front ++ t ∷ more)
+reached n m fs tops front t more e =
+    record {
+      front = front;
+      token = t;
+      more = more;
+      whole = refl;
+      begins = good_begins n m fs tops front (good_at n m fs tops front e);
+    }
+
 -- a step that stops, by its reading
 stopped : (r : Run) (n m : ℕ) (fs : List Frame) (tops : List Syntax) (front : List Token) (t : Token)
     (more : List Token) → run (start n) front ≡ On m fs tops → step m fs tops t ≡ r
@@ -111,11 +123,7 @@ stopped (Stray p) n m fs tops front t more e s again =
     inr (
       IsStray p,
       record {
-        front = front;
-        token = t;
-        more = more;
-        whole = refl;
-        begins = good_begins n m fs tops front (good_at n m fs tops front e);
+        at = reached n m fs tops front t more e;
         stops = stray_none n (front ++ t ∷ []) p (next_one n m fs tops front t e ∙ s);
         place = subst P s (at_step t m fs tops);
       },
@@ -127,11 +135,7 @@ stopped (Deep p) n m fs tops front t more e s again =
     inr (
       IsDeep p,
       record {
-        front = front;
-        token = t;
-        more = more;
-        whole = refl;
-        begins = good_begins n m fs tops front (good_at n m fs tops front e);
+        at = reached n m fs tops front t more e;
         stops = λ b. subst Q (next_one n m fs tops front t e ∙ s) (begins_on n (front ++ t ∷ []) b);
         depth = suc n;
         deeper = deep_begins n m fs tops front t e (subst R (sym s) tt);
@@ -159,33 +163,31 @@ outcome n ts = outcome_from ts n n [] [] [] refl
 
 -- the token after which no text goes on, by the reading with it
 stray_shown : (r : Run) (n m : ℕ) (fs : List Frame) (tops : List Syntax) (ts : List Token) (p : Pos)
-    (h : Strays n ts p) → run (start n) h.front ≡ On m fs tops → step m fs tops h.token ≡ r
-    → Shows (run r h.more) (IsStray p)
+    (h : Strays n ts p) → run (start n) h.at.front ≡ On m fs tops → step m fs tops h.at.token ≡ r
+    → Shows (run r h.at.more) (IsStray p)
 stray_shown (On k gs us) n m fs tops ts p h e s =
-    let P : Run → Type 0 = λ r. IsOn r in
     absurd
     (h.stops n
-    (on_begins n (h.front ++ h.token ∷ []) (subst P (sym (next_one n m fs tops h.front h.token e ∙ s)) tt)))
+    (on_begins n (h.at.front ++ h.at.token ∷ []) (subst (λ r. IsOn r) (sym (next_one n m fs tops h.at.front h.at.token e ∙ s)) tt)))
 stray_shown (Stray q) n m fs tops ts p h e s =
-    let P : Run → Type 0 = λ r. AtPlace (place_of h.token) r in
-    ap IsStray (h.place ∙ sym (subst P s (at_step h.token m fs tops)))
+    let P : Run → Type 0 = λ r. AtPlace (place_of h.at.token) r in
+    ap IsStray (h.place ∙ sym (subst P s (at_step h.at.token m fs tops)))
 stray_shown (Deep q) n m fs tops ts p h e s =
     let R : Run → Type 0 = λ r. TooDeep r in
-    absurd (h.stops (suc n) (deep_begins n m fs tops h.front h.token e (subst R (sym s) tt)))
+    absurd (h.stops (suc n) (deep_begins n m fs tops h.at.front h.at.token e (subst R (sym s) tt)))
 
 deep_shown : (r : Run) (n m : ℕ) (fs : List Frame) (tops : List Syntax) (ts : List Token) (p : Pos)
-    (h : Deepens n ts p) → run (start n) h.front ≡ On m fs tops → step m fs tops h.token ≡ r
-    → Shows (run r h.more) (IsDeep p)
+    (h : Deepens n ts p) → run (start n) h.at.front ≡ On m fs tops → step m fs tops h.at.token ≡ r
+    → Shows (run r h.at.more) (IsDeep p)
 deep_shown (On k gs us) n m fs tops ts p h e s =
-    let P : Run → Type 0 = λ r. IsOn r in
     absurd
-    (h.stops (on_begins n (h.front ++ h.token ∷ []) (subst P (sym (next_one n m fs tops h.front h.token e ∙ s)) tt)))
+    (h.stops (on_begins n (h.at.front ++ h.at.token ∷ []) (subst (λ r. IsOn r) (sym (next_one n m fs tops h.at.front h.at.token e ∙ s)) tt)))
 deep_shown (Stray q) n m fs tops ts p h e s =
     absurd
-    (stray_none n (h.front ++ h.token ∷ []) q (next_one n m fs tops h.front h.token e ∙ s) h.depth h.deeper)
+    (stray_none n (h.at.front ++ h.at.token ∷ []) q (next_one n m fs tops h.at.front h.at.token e ∙ s) h.depth h.deeper)
 deep_shown (Deep q) n m fs tops ts p h e s =
-    let P : Run → Type 0 = λ r. AtPlace (place_of h.token) r in
-    ap IsDeep (h.place ∙ sym (subst P s (at_step h.token m fs tops)))
+    let P : Run → Type 0 = λ r. AtPlace (place_of h.at.token) r in
+    ap IsDeep (h.place ∙ sym (subst P s (at_step h.at.token m fs tops)))
 
 -- Where the reading of what stands inside an opener goes on, the opener is the innermost that is open.
 
@@ -280,21 +282,22 @@ opener_innermost (Atomic p a) n m fs tops ts stays goes = absurd stays
 front_goes : (n : ℕ) (front : List Token) → Begins n front → Going (run (start n) front)
 front_goes n front b = going (run (start n) front) (begins_on n front b)
 
+-- what is shown at the token behind them, the whole shows
+shown_after : (n : ℕ) (ts front : List Token) (t : Token) (more : List Token) (d : Fault) → ts ≡ front ++ t ∷ more
+    → (g : Going (run (start n) front)) → Shows (run (step g.levels g.frames g.tops t) more) d → Shows (run (start n) ts) d
+shown_after n ts front t more d whole g shown =
+    let P : Run → Type 0 = λ r. Shows r d in
+    subst P (sym (ap (run (start n)) whole ∙ next n g.levels g.frames g.tops front t more g.is)) shown
+
 pub fault_shown : (n : ℕ) (ts : List Token) (d : Fault) → HasFault n ts d → Shows (run (start n) ts) d
 fault_shown n ts (IsStray p) h =
-    let g = front_goes n h.front h.begins in
-    let P : Run → Type 0 = λ r. Shows r (IsStray p) in
-    subst P
-    (sym
-    (ap (run (start n)) h.whole ∙ next n g.levels g.frames g.tops h.front h.token h.more g.is))
-    (stray_shown (step g.levels g.frames g.tops h.token) n g.levels g.frames g.tops ts p h g.is refl)
+    let g = front_goes n h.at.front h.at.begins in
+    shown_after n ts h.at.front h.at.token h.at.more (IsStray p) h.at.whole g
+    (stray_shown (step g.levels g.frames g.tops h.at.token) n g.levels g.frames g.tops ts p h g.is refl)
 fault_shown n ts (IsDeep p) h =
-    let g = front_goes n h.front h.begins in
-    let P : Run → Type 0 = λ r. Shows r (IsDeep p) in
-    subst P
-    (sym
-    (ap (run (start n)) h.whole ∙ next n g.levels g.frames g.tops h.front h.token h.more g.is))
-    (deep_shown (step g.levels g.frames g.tops h.token) n g.levels g.frames g.tops ts p h g.is refl)
+    let g = front_goes n h.at.front h.at.begins in
+    shown_after n ts h.at.front h.at.token h.at.more (IsDeep p) h.at.whole g
+    (deep_shown (step g.levels g.frames g.tops h.at.token) n g.levels g.frames g.tops ts p h g.is refl)
 fault_shown n ts (IsUnclosed p) h =
     let Goes : Run → Type 0 = λ r. IsOn r in
     let goes : IsOn (run (run (start n) h.front) (h.opener ∷ h.inside)) =

@@ -1,5 +1,5 @@
 -- Where a text stops before its end: what stands before is its tokens, no token of the grammar begins, and why.
-use Rattle.std.proofs.Common.{◌≡◌, ℕ, zero, suc, ◌<◌, ◌≤◌, Bool, true, false, List, [], ◌∷◌, ◌++◌, length, Option, Some, None, refl, sym, ap, subst, ◌∙◌, append_assoc, length-append, arith, cond}
+use Rattle.std.proofs.Common.{◌≡◌, ℕ, zero, suc, ◌<◌, ◌≤◌, Bool, true, false, List, [], ◌∷◌, ◌++◌, length, Option, Some, None, refl, sym, ap, subst, ◌∙◌, append_assoc, length-append, arith}
 use Rattle.std.specs.Prelude.{codes}
 use Rattle.std.specs.Char.{is_ascii_whitespace}
 use Rattle.std.specs.Str.{byte}
@@ -10,18 +10,18 @@ use Rattle.datum_form.specs.Grammar.IsToken.{opens, opens_vector, closes, quote,
 use Rattle.datum_form.specs.Grammar.IsTokens.{ended, white, comment, token}
 use Rattle.datum_form.specs.declared.token.Token.{Token}
 use Rattle.datum_form.specs.declared.piece.Piece.{Piece}
-use Rattle.datum_form.specs.Text.{Lexed, Ending, line_length, token_piece, piece, lexed_after}
+use Rattle.datum_form.specs.Text.{Lexed, Ending, token_piece, piece, lexed_after}
 use Rattle.datum_form.specs.Text.Ending.{BadAt, RangeAt, OpenAt}
 use Rattle.datum_form.specs.declared.piece.Piece.TheVariants.{Blank, Found, BadToken, BadNumber, OpenString}
 use Rattle.datum_form.specs.Words.{begins_with}
-use Rattle.datum_form.proofs.FirstPieceOrStop.{Tells, front_token, tells_first}
+use Rattle.datum_form.proofs.FirstPieceOrStop.{Tells, tells_first}
 use Rattle.datum_form.proofs.FirstPieceOrStop.Tells.{found, out, unclosed, bad}
 use Rattle.datum_form.proofs.TokensAsWritten.{token_found, out_found, open_found}
 use Rattle.datum_reader.specs.Answer.{stop_of, Causes, Stops}
 use Rattle.datum_reader.specs.Lexing.{token_then, ends}
-use Rattle.datum_reader.proofs.TokensByPieces.{piece_length_some, at_bad_token, at_bad_number, at_open_string}
+use Rattle.datum_reader.proofs.TokensByPieces.{at_bad_token, at_bad_number, at_open_string}
 use Rattle.datum_reader.proofs.ValidDataReadBack.{position_after-append}
-use Rattle.datum_reader.proofs.TokensFoundAreSpelled.{NoBlank, past_white, past_comment, past_token, line_of, token_no_blank, first_byte}
+use Rattle.datum_reader.proofs.TokensFoundAreSpelled.{NoBlank, past_white, past_comment, past_token, line_of, first_token, token_no_blank, first_byte, no_blank_first}
 
 abbrev stop : Lexed → Option Pos
 stop lex = stop_of lex.ending
@@ -125,59 +125,57 @@ Stopped k =
 same_place : (p q : Pos) → Some p ≡ Some q → p ≡ q
 same_place p q e = cc
 
+-- no token is at the front of the text
+stops_here : (p q : Pos) (text : List ℕ) (x : Piece) (ending : Ending) → 0 < length text → piece p text ≡ x
+    → ((t : Token) (n : ℕ) → x ≡ Found t n → ⊥) → lexed_after 0 p text ≡ ends ending → Causes ending text
+    → stop (ends ending) ≡ Some p → stop (lexed_after 0 p text) ≡ Some q → Stops p text (lexed_after 0 p text) q
+stops_here p q text x ending there is other all cause at e =
+    same_lexed p text (lexed_after 0 p text) (ends ending) q all
+    (here p q text x ending there is other cause (same_place p q (sym at ∙ (sym (ap stop all) ∙ e))))
+
 token_stops : (k b : ℕ) (p : Pos) (bytes : List ℕ) (q : Pos) (x : Piece) → length (b ∷ bytes) ≤ suc k
     → piece p (b ∷ bytes) ≡ x → token_piece p (b ∷ bytes) ≡ x → NoBlank x → stop (lexed_after 0 p (b ∷ bytes)) ≡ Some q
     → Stopped k → Stops p (b ∷ bytes) (lexed_after 0 p (b ∷ bytes)) q
 token_stops k b p bytes q (Blank n) few is its none e more = absurd none
 token_stops k b p bytes q (Found t n) few is its none e more =
     let text : List ℕ = b ∷ bytes in
-    let f = front_token p text t n its in
-    let some : 0 < n = piece_length_some p text (Found t n) (omega arith) is in
-    let next : piece p (f.bytes ++ f.after) ≡ Found t (length f.bytes) =
-    sym (ap (piece p) f.whole) ∙ (is ∙ ap (λ m. Found t m) f.count) in
-    let less : length f.after ≤ k = omega (arith, few, some, f.count, ap length f.whole, length-append f.bytes f.after) in
+    let g = first_token k p text t n few (omega arith) is its in
+    let f = g.front in
     let rest : Lexed = lexed_after 0 (position_after p f.bytes) f.after in
     let all : lexed_after 0 p text ≡ token_then t rest =
-    ap (λ l. lexed_after 0 p l) f.whole ∙ past_token p f.bytes f.after t next in
+    ap (λ l. lexed_after 0 p l) f.whole ∙ past_token p f.bytes f.after t g.next in
     same_lexed p text (lexed_after 0 p text) (token_then t rest) q all
     (further p text f.bytes f.after (token_then t rest) rest q f.whole refl
     (λ mid left whole tokens. token p f.bytes mid t rest.tokens (token_front p f.bytes f.after mid left t whole f.has) tokens)
-    (more (position_after p f.bytes) f.after q less (sym (ap stop all) ∙ e)))
+    (more (position_after p f.bytes) f.after q g.less (sym (ap stop all) ∙ e)))
 token_stops k b p bytes q BadToken few is its none e more =
     let text : List ℕ = b ∷ bytes in
-    let all = at_bad_token p text (omega arith) is in
-    same_lexed p text (lexed_after 0 p text) (ends (BadAt p)) q all
-    (here p q text BadToken (BadAt p) (omega arith) is (λ t n h. cc)
-    ((λ o. number_token (sym is ∙ out_found p text o)), (λ o. open_token (sym is ∙ open_found p text o)))
-    (same_place p q (sym (ap stop all) ∙ e)))
+    stops_here p q text BadToken (BadAt p) (omega arith) is (λ t n h. cc) (at_bad_token p text (omega arith) is)
+    ((λ o. number_token (sym is ∙ out_found p text o)), (λ o. open_token (sym is ∙ open_found p text o))) refl e
 token_stops k b p bytes q BadNumber few is its none e more =
     let text : List ℕ = b ∷ bytes in
-    let all = at_bad_number p text (omega arith) is in
-    same_lexed p text (lexed_after 0 p text) (ends (RangeAt p)) q all
-    (here p q text BadNumber (RangeAt p) (omega arith) is (λ t n h. cc)
-    (number_out p text (token_piece p text) (tells_first p text) its) (same_place p q (sym (ap stop all) ∙ e)))
+    stops_here p q text BadNumber (RangeAt p) (omega arith) is (λ t n h. cc) (at_bad_number p text (omega arith) is)
+    (number_out p text (token_piece p text) (tells_first p text) its) refl e
 token_stops k b p bytes q OpenString few is its none e more =
     let text : List ℕ = b ∷ bytes in
-    let all = at_open_string p text (omega arith) is in
-    same_lexed p text (lexed_after 0 p text) (ends (OpenAt p)) q all
-    (here p q text OpenString (OpenAt p) (omega arith) is (λ t n h. cc)
-    (never_ends p text (token_piece p text) (tells_first p text) its) (same_place p q (sym (ap stop all) ∙ e)))
+    stops_here p q text OpenString (OpenAt p) (omega arith) is (λ t n h. cc) (at_open_string p text (omega arith) is)
+    (never_ends p text (token_piece p text) (tells_first p text) its) refl e
 
 comment_stops : (k b : ℕ) (p : Pos) (bytes : List ℕ) (q : Pos) → length (b ∷ bytes) ≤ suc k → b ≡ 59
     → stop (lexed_after 0 p (b ∷ bytes)) ≡ Some q → Stopped k → Stops p (b ∷ bytes) (lexed_after 0 p (b ∷ bytes)) q
 comment_stops k b p bytes q few mark e more =
     let l = line_of bytes in
-    let whole : b ∷ bytes ≡ 59 ∷ (l.line ++ l.after) = ap (λ c. c ∷ bytes) mark ∙ ap (λ r. 59 ∷ r) l.whole in
-    let less : length l.after ≤ k = omega (arith, few, ap length l.whole, length-append l.line l.after) in
-    let rest : Lexed = lexed_after 0 (position_after p (59 ∷ l.line)) l.after in
+    let whole : b ∷ bytes ≡ 59 ∷ (l.front ++ l.after) = ap (λ c. c ∷ bytes) mark ∙ ap (λ r. 59 ∷ r) l.whole in
+    let less : length l.after ≤ k = omega (arith, few, ap length l.whole, length-append l.front l.after) in
+    let rest : Lexed = lexed_after 0 (position_after p (59 ∷ l.front)) l.after in
     let all : lexed_after 0 p (b ∷ bytes) ≡ rest =
-    ap (λ r. lexed_after 0 p r) whole ∙ past_comment p l.line l.after l.one l.end in
+    ap (λ r. lexed_after 0 p r) whole ∙ past_comment p l.front l.after l.within l.behind in
     let P : List ℕ → Type 0 = λ r. AtLineEnd r in
     same_lexed p (b ∷ bytes) (lexed_after 0 p (b ∷ bytes)) rest q all
-    (further p (b ∷ bytes) (59 ∷ l.line) l.after rest rest q whole refl
+    (further p (b ∷ bytes) (59 ∷ l.front) l.after rest rest q whole refl
     (λ mid left whole tokens.
-    comment p l.line mid rest.tokens l.one (line_end_front mid left (subst P whole l.end)) tokens)
-    (more (position_after p (59 ∷ l.line)) l.after q less (sym (ap stop all) ∙ e)))
+    comment p l.front mid rest.tokens l.within (line_end_front mid left (subst P whole l.behind)) tokens)
+    (more (position_after p (59 ∷ l.front)) l.after q less (sym (ap stop all) ∙ e)))
 
 step_stops : (k b : ℕ) (p : Pos) (bytes : List ℕ) (q : Pos) → length (b ∷ bytes) ≤ suc k
     → stop (lexed_after 0 p (b ∷ bytes)) ≡ Some q → Stopped k → Stops p (b ∷ bytes) (lexed_after 0 p (b ∷ bytes)) q
@@ -194,9 +192,7 @@ step_stops k b p bytes q few e more = at (is_ascii_whitespace b) (begins_with (b
         (more (after_byte p b) bytes q (omega (arith, few)) (sym (ap stop all) ∙ e)))
     at false true hw hc = comment_stops k b p bytes q few (first_byte b bytes hc) e more
     at false false hw hc =
-        let is : piece p (b ∷ bytes) ≡ token_piece p (b ∷ bytes) =
-        ap (λ t. cond t (Blank 1) (cond (begins_with (b ∷ bytes) (codes ";")) (Blank (line_length (b ∷ bytes))) (token_piece p (b ∷ bytes)))) hw
-        ∙ ap (λ t. cond t (Blank (line_length (b ∷ bytes))) (token_piece p (b ∷ bytes))) hc in
+        let is = no_blank_first p b bytes hw hc in
         token_stops k b p bytes q (token_piece p (b ∷ bytes)) few is refl (token_no_blank p (b ∷ bytes)) e more
 
 never : (q : Pos) → None ≡ Some q → ⊥

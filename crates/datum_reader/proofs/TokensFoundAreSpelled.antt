@@ -20,8 +20,8 @@ use Rattle.datum_form.specs.declared.piece.Word.{Word}
 use Rattle.datum_form.specs.Words.{begins_with, small_word, character_word}
 use Rattle.datum_form.specs.declared.piece.Word.TheVariants.{IsToken, OutOfRange, NoWord}
 use Rattle.datum_form.proofs.NumbersAsWritten.{begins_one}
-use Rattle.datum_form.proofs.TokensAsWritten.{token_found}
-use Rattle.datum_form.proofs.FirstPieceOrStop.{front_token}
+use Rattle.datum_form.proofs.TokensAsWritten.{Cut, token_found}
+use Rattle.datum_form.proofs.FirstPieceOrStop.{Front, front_token}
 use Rattle.datum_reader.specs.Lexing.{token_then, ends}
 use Rattle.datum_reader.proofs.TokensByPieces.{piece_length_some, after_blank, at_token, at_bad_token, at_bad_number, at_open_string}
 use Rattle.datum_form.proofs.TokensAsWritten.{length_while-step, length_while-none}
@@ -44,33 +44,26 @@ line_length-append (b ∷ line) after one end =
     length_while-step (λ c. not (is_line_end c)) b (line ++ after) (ap not (no_end b one.0))
     ∙ ap (λ n. suc n) (line_length-append line after one.1 end)
 
--- the bytes up to the line's end
-pub record Line (text : List ℕ) : Type 0 where
-  pub line : List ℕ
-  pub after : List ℕ
-  pub whole : text ≡ line ++ after
-  pub one : IsOneLine line
-  pub end : AtLineEnd after
-
 is_end : (b : ℕ) → is_line_end b ≡ true → b ≡ 10
 is_end b h = grind arith
 
 is_no_end : (b : ℕ) → is_line_end b ≡ false → b ≢ 10
 is_no_end b h = grind arith
 
-pub line_of : (text : List ℕ) → Line text
-line_of [] = record { line = []; after = []; whole = refl; one = tt; end = tt }
+-- the bytes up to the line's end
+pub line_of : (text : List ℕ) → Cut IsOneLine AtLineEnd text
+line_of [] = record { front = []; after = []; whole = refl; within = tt; behind = tt }
 line_of (b ∷ bytes) = at (is_line_end b) refl (line_of bytes)
   where
-    at : (e : Bool) → is_line_end b ≡ e → Line bytes → Line (b ∷ bytes)
-    at true h l = record { line = []; after = b ∷ bytes; whole = refl; one = tt; end = is_end b h }
+    at : (e : Bool) → is_line_end b ≡ e → Cut IsOneLine AtLineEnd bytes → Cut IsOneLine AtLineEnd (b ∷ bytes)
+    at true h l = record { front = []; after = b ∷ bytes; whole = refl; within = tt; behind = is_end b h }
     at false h l =
         record {
-          line = b ∷ l.line;
+          front = b ∷ l.front;
           after = l.after;
           whole = ap (λ r. b ∷ r) l.whole;
-          one = (is_no_end b h, l.one);
-          end = l.end;
+          within = (is_no_end b h, l.within);
+          behind = l.behind;
         }
 
 -- after a comment
@@ -180,6 +173,23 @@ tail_of t lex ts e =
       rest = ap (λ g. record { tokens = lex.tokens; ending = g }) (ap (λ l. l.ending) e);
     }
 
+-- the token at the front of a text, and what is left when it is taken
+pub record First (k : ℕ) (p : Pos) (text : List ℕ) (t : Token) (n : ℕ) : Type 0 where
+  pub front : Front p text t n
+  pub next : piece p (front.bytes ++ front.after) ≡ Found t (length front.bytes)
+  pub less : length front.after ≤ k
+
+pub first_token : (k : ℕ) (p : Pos) (text : List ℕ) (t : Token) (n : ℕ) → length text ≤ suc k → 0 < length text
+    → piece p text ≡ Found t n → token_piece p text ≡ Found t n → First k p text t n
+first_token k p text t n few there is its =
+    let f = front_token p text t n its in
+    let some : 0 < n = piece_length_some p text (Found t n) there is in
+    record {
+      front = f;
+      next = sym (ap (piece p) f.whole) ∙ (is ∙ ap (λ m. Found t m) f.count);
+      less = omega (arith, few, some, f.count, ap length f.whole, length-append f.bytes f.after);
+    }
+
 -- what a text without its first bytes is
 abbrev Shown : ℕ → Type 0
 Shown k = (p : Pos) (text : List ℕ) (ts : List Token) → length text ≤ k → lexed_after 0 p text ≡ clean ts → IsTokens p text ts
@@ -193,18 +203,15 @@ token_shown : (k b : ℕ) (p : Pos) (bytes : List ℕ) (ts : List Token) (x : Pi
 token_shown k b p bytes ts (Blank n) few is its none e more = absurd none
 token_shown k b p bytes ts (Found t n) few is its none e more =
     let text : List ℕ = b ∷ bytes in
-    let f = front_token p text t n its in
-    let some : 0 < n = piece_length_some p text (Found t n) (omega arith) is in
-    let found : piece p (f.bytes ++ f.after) ≡ Found t (length f.bytes) =
-    sym (ap (piece p) f.whole) ∙ (is ∙ ap (λ m. Found t m) f.count) in
+    let g = first_token k p text t n few (omega arith) is its in
+    let f = g.front in
     let rest : token_then t (lexed_after 0 (position_after p f.bytes) f.after) ≡ clean ts =
-    sym (past_token p f.bytes f.after t found) ∙ (sym (ap (lexed_after 0 p) f.whole) ∙ e) in
+    sym (past_token p f.bytes f.after t g.next) ∙ (sym (ap (lexed_after 0 p) f.whole) ∙ e) in
     let r = tail_of t (lexed_after 0 (position_after p f.bytes) f.after) ts rest in
-    let less : length f.after ≤ k = omega (arith, few, some, f.count, ap length f.whole, length-append f.bytes f.after) in
     let P : List ℕ → Type 0 = λ l. IsTokens p l ts in
     let Q : List Token → Type 0 = λ us. IsTokens p (f.bytes ++ f.after) us in
     subst P (sym f.whole)
-    (subst Q (sym r.whole) (token p f.bytes f.after t r.others f.has (more (position_after p f.bytes) f.after r.others less r.rest)))
+    (subst Q (sym r.whole) (token p f.bytes f.after t r.others f.has (more (position_after p f.bytes) f.after r.others g.less r.rest)))
 token_shown k b p bytes ts BadToken few is its none e more =
     absurd (differ (bad (ends (BadAt p)) ts (sym (at_bad_token p (b ∷ bytes) (omega arith) is) ∙ e)))
   where
@@ -225,13 +232,13 @@ comment_shown : (k b : ℕ) (p : Pos) (bytes : List ℕ) (ts : List Token) → l
     → lexed_after 0 p (b ∷ bytes) ≡ clean ts → Shown k → IsTokens p (b ∷ bytes) ts
 comment_shown k b p bytes ts few mark e more =
     let l = line_of bytes in
-    let whole : b ∷ bytes ≡ 59 ∷ (l.line ++ l.after) = ap (λ c. c ∷ bytes) mark ∙ ap (λ r. 59 ∷ r) l.whole in
-    let less : length l.after ≤ k = omega (arith, few, ap length l.whole, length-append l.line l.after) in
+    let whole : b ∷ bytes ≡ 59 ∷ (l.front ++ l.after) = ap (λ c. c ∷ bytes) mark ∙ ap (λ r. 59 ∷ r) l.whole in
+    let less : length l.after ≤ k = omega (arith, few, ap length l.whole, length-append l.front l.after) in
     let P : List ℕ → Type 0 = λ r. IsTokens p r ts in
     subst P (sym whole)
-    (comment p l.line l.after ts l.one l.end
-    (more (position_after p (59 ∷ l.line)) l.after ts less
-    (sym (past_comment p l.line l.after l.one l.end) ∙ (sym (ap (lexed_after 0 p) whole) ∙ e))))
+    (comment p l.front l.after ts l.within l.behind
+    (more (position_after p (59 ∷ l.front)) l.after ts less
+    (sym (past_comment p l.front l.after l.within l.behind) ∙ (sym (ap (lexed_after 0 p) whole) ∙ e))))
 
 pub first_byte : (b : ℕ) (bytes : List ℕ) → begins_with (b ∷ bytes) (codes ";") ≡ true → b ≡ 59
 first_byte b bytes e = ap head (begins_one (b ∷ bytes) 59 e)
@@ -239,6 +246,14 @@ first_byte b bytes e = ap head (begins_one (b ∷ bytes) 59 e)
     head : List ℕ → ℕ
     head [] = 0
     head (c ∷ rest) = c
+
+-- a text that begins with no white space and no comment begins with a token, if with anything
+pub no_blank_first : (p : Pos) (b : ℕ) (bytes : List ℕ) → is_ascii_whitespace b ≡ false
+    → begins_with (b ∷ bytes) (codes ";") ≡ false → piece p (b ∷ bytes) ≡ token_piece p (b ∷ bytes)
+no_blank_first p b bytes hw hc =
+    let text : List ℕ = b ∷ bytes in
+    ap (λ t. cond t (Blank 1) (cond (begins_with text (codes ";")) (Blank (line_length text)) (token_piece p text))) hw
+    ∙ ap (λ t. cond t (Blank (line_length text)) (token_piece p text)) hc
 
 step_shown : (k b : ℕ) (p : Pos) (bytes : List ℕ) (ts : List Token) → length (b ∷ bytes) ≤ suc k
     → lexed_after 0 p (b ∷ bytes) ≡ clean ts → Shown k → IsTokens p (b ∷ bytes) ts
@@ -250,9 +265,7 @@ step_shown k b p bytes ts few e more =
         white p b bytes ts hw (more (after_byte p b) bytes ts (omega (arith, few)) (sym (past_white p b bytes hw) ∙ e))
     at false true hw hc = comment_shown k b p bytes ts few (first_byte b bytes hc) e more
     at false false hw hc =
-        let is : piece p (b ∷ bytes) ≡ token_piece p (b ∷ bytes) =
-        ap (λ t. cond t (Blank 1) (cond (begins_with (b ∷ bytes) (codes ";")) (Blank (line_length (b ∷ bytes))) (token_piece p (b ∷ bytes)))) hw
-        ∙ ap (λ t. cond t (Blank (line_length (b ∷ bytes))) (token_piece p (b ∷ bytes))) hc in
+        let is = no_blank_first p b bytes hw hc in
         token_shown k b p bytes ts (token_piece p (b ∷ bytes)) few is refl (token_no_blank p (b ∷ bytes)) e more
 
 none_read : (p : Pos) (ts : List Token) → clean [] ≡ clean ts → IsTokens p [] ts

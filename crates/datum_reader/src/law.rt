@@ -12,6 +12,7 @@ ghost use Rattle.datum_reader.specs.Answer.{Reads, ReadFault, ReadsAgain, Stops,
 
 /// The law that a list of tokens is a text of one list of trees, or else has one fault at one place,
 /// whatever depth of nesting is allowed.
+#[tactic(auto, using(crate::proofs::WholeTreesAreRead::one_text, crate::proofs::OneReading::one_fault, crate::proofs::OneReading::text_or_fault))]
 pub fn one_reading()
     ensures trees { (n : ℕ) (ts : List Token) (ss rs : List Syntax) → IsText n ts ss → IsText n ts rs → ss ≡ rs }
     ensures fault { (n : ℕ) (ts : List Token) (d e : Fault) → HasFault n ts d → HasFault n ts e → d ≡ e }
@@ -20,6 +21,7 @@ pub fn one_reading()
 {}
 
 /// The law that a text reads as one list of data, or else has one fault at one place.
+#[tactic(auto, using(crate::proofs::OneAnswer::same_fault))]
 pub fn one_answer()
     ensures same_data { (text : List ℕ) (d e : Items) → Reads text d → Reads text e → d ≡ e }
     ensures same_fault { (text : List ℕ) (d e : ReadErr) → ReadFault text d → ReadFault text e → d ≡ e }

@@ -168,19 +168,22 @@ kept_change c base words more change workers k here others number worker there =
           subst Kept (sym new.1.2) (here new.1.0 (subst At new.0 new.1.1))
     ]
 
+-- a state of which only the workers have changed
+other_workers :
+    (s : State) (workers : List (Option Worker)) → IsSound s.constraints s.base s
+    → ((number : ℕ) (worker : Worker) → slice_get workers number ≡ Some (Some worker)
+    → IsKept s.constraints s.base s.words worker)
+    → IsSound s.constraints s.base (record s { workers = workers })
+other_workers s workers h kept =
+    record { same_constraints = refl; same_base = refl; between = h.between; kept = kept }
+
 sound_event :
     (s : State) (event : Event) → IsSound s.constraints s.base s → Legal s event
     → IsSound s.constraints s.base (after s event)
 sound_event s (Load k word) h legal =
-    record {
-      same_constraints = refl;
-      same_base = refl;
-      between = h.between;
-      kept =
-          kept_change s.constraints s.base s.words s.words (loading word (slice_index s.words word)) s.workers k
-          (λ worker there. kept_load s.constraints s.base s.words word worker (h.kept k worker there))
-          h.kept;
-    }
+    other_workers s _ h
+    (kept_change s.constraints s.base s.words s.words (loading word (slice_index s.words word)) s.workers k
+    (λ worker there. kept_load s.constraints s.base s.words word worker (h.kept k worker there)) h.kept)
 sound_event s (Or k word mask) h legal =
     record {
       same_constraints = refl;
@@ -200,19 +203,14 @@ sound_event s (Or k word mask) h legal =
 sound_event s (Claim k) h legal =
     record { same_constraints = refl; same_base = refl; between = h.between; kept = h.kept }
 sound_event s (Done k block) h legal =
-    record {
-      same_constraints = refl;
-      same_base = refl;
-      between = h.between;
-      kept =
-          kept_change s.constraints s.base s.words s.words (finishing block) s.workers k
-          (λ worker there.
-          let same : legal.worker ≡ worker = cc (legal.worker_there, there) in
-          let Seen : Worker → Type 0 =
-          λ w. Within (GivenByBlock s.constraints.rules block (In s.constraints s.base)) (Seen s.constraints w) in
-          kept_finish s.constraints s.base s.words block worker (subst Seen same legal.seen) (h.kept k worker there))
-          h.kept;
-    }
+    other_workers s _ h
+    (kept_change s.constraints s.base s.words s.words (finishing block) s.workers k
+    (λ worker there.
+    let same : legal.worker ≡ worker = cc (legal.worker_there, there) in
+    let Seen : Worker → Type 0 =
+    λ w. Within (GivenByBlock s.constraints.rules block (In s.constraints s.base)) (Seen s.constraints w) in
+    kept_finish s.constraints s.base s.words block worker (subst Seen same legal.seen) (h.kept k worker there))
+    h.kept)
 
 -- a worker that takes in another one of the state is kept
 kept_joining :

@@ -69,7 +69,7 @@ worker_of_seat s c base words claims seats k worker same there =
     let At : State → Type 0 = λ t. IsWorker t k worker in
     subst At same (worker_in seats k worker there)
 
-pub seat_here :
+seat_here :
     (s : State) (c : Constraints) (base words : List ℕ) (claims : ℕ) (seats : List Worker) (k : ℕ) (worker seat : Worker)
     → state_of c base words claims seats ≡ s → IsWorker s k worker → seat ≡ get_or seats k seat
     → slice_get seats k ≡ Some seat
@@ -79,68 +79,69 @@ seat_here s c base words claims seats k worker seat same there read =
 
 -- ---- sizes
 sized_set :
-    (c : Constraints) (base words : List ℕ) (seats : List Worker) (k : ℕ) (new : Worker)
-    → IsSized c base words seats → IsSizedWorker c new → IsSized c base words (slice_set seats k new)
-sized_set c base words seats k new h sized =
+    (c : Constraints) (base words : List ℕ) (seats : List Worker) (k : ℕ) (made new : Worker)
+    → IsSized c base words seats → new ≡ made → IsSizedWorker c made → IsSized c base words (slice_set seats k new)
+sized_set c base words seats k made new h is sized =
     record {
       base_size = h.base_size;
       words_size = h.words_size;
       seats_sized = λ j worker there.
           elim (set_or seats k j new worker there) [
-            | inl same ↦ let P : Worker → Type 0 = λ w. IsSizedWorker c w in subst P (sym same) sized
+            | inl same ↦ let P : Worker → Type 0 = λ w. IsSizedWorker c w in subst P (sym (same ∙ is)) sized
             | inr old ↦ h.seats_sized j worker old
           ];
     }
 
 pub sized_load :
-    (c : Constraints) (base words : List ℕ) (seats : List Worker) (k word bits : ℕ) (seat new : Worker)
-    → IsSized c base words seats → slice_get seats k ≡ Some seat → new ≡ loading word bits seat
+    (s : State) (c : Constraints) (base words : List ℕ) (claims : ℕ) (seats : List Worker) (k word bits : ℕ)
+    (seat new : Worker) → state_of c base words claims seats ≡ s → CanLoad s k word → seat ≡ get_or seats k seat
+    → IsSized c base words seats → new ≡ loading word bits seat
     → IsSized c base words (slice_set seats k new)
-sized_load c base words seats k word bits seat new h there same =
+sized_load s c base words claims seats k word bits seat new whole can read h same =
+    let there = seat_here s c base words claims seats k can.worker seat whole can.worker_there read in
     let old = h.seats_sized k seat there in
-    let P : Worker → Type 0 = λ w. IsSizedWorker c w in
-    sized_set c base words seats k new h
-    (subst P (sym same)
+    sized_set c base words seats k (loading word bits seat) new h same
     record {
       loaded = length-set seat.loaded word (bit_or (get_or seat.loaded word 0) bits) ∙ old.loaded;
       grown = old.grown;
       done = old.done;
-    })
+    }
 
 pub sized_grow :
-    (c : Constraints) (base words : List ℕ) (seats : List Worker) (k word bits found : ℕ) (seat new : Worker)
-    → IsSized c base words seats → slice_get seats k ≡ Some seat → new ≡ growing word bits seat
+    (s : State) (c : Constraints) (base words : List ℕ) (claims : ℕ) (seats : List Worker) (k word mask bits found : ℕ)
+    (seat new : Worker) → state_of c base words claims seats ≡ s → CanOr s k word mask → seat ≡ get_or seats k seat
+    → IsSized c base words seats → new ≡ growing word bits seat
     → IsSized c base (slice_set words word found) (slice_set seats k new)
-sized_grow c base words seats k word bits found seat new h there same =
+sized_grow s c base words claims seats k word mask bits found seat new whole can read h same =
+    let there = seat_here s c base words claims seats k can.worker seat whole can.worker_there read in
     let old = h.seats_sized k seat there in
-    let P : Worker → Type 0 = λ w. IsSizedWorker c w in
-    sized_set c base (slice_set words word found) seats k new
+    sized_set c base (slice_set words word found) seats k (growing word bits seat) new
     record {
       base_size = h.base_size;
       words_size = length-set words word found ∙ h.words_size;
       seats_sized = h.seats_sized;
     }
-    (subst P (sym same)
+    same
     record {
       loaded = old.loaded;
       grown = length-set seat.grown word (bit_or (get_or seat.grown word 0) bits) ∙ old.grown;
       done = old.done;
-    })
+    }
 
 pub sized_finish :
-    (c : Constraints) (base words : List ℕ) (seats : List Worker) (k block : ℕ) (seat new : Worker)
-    → IsSized c base words seats → slice_get seats k ≡ Some seat → new ≡ finishing block seat
+    (s : State) (c : Constraints) (base words : List ℕ) (claims : ℕ) (seats : List Worker) (k block : ℕ)
+    (seat new : Worker) → state_of c base words claims seats ≡ s → CanFinish s k block → seat ≡ get_or seats k seat
+    → IsSized c base words seats → new ≡ finishing block seat
     → IsSized c base words (slice_set seats k new)
-sized_finish c base words seats k block seat new h there same =
+sized_finish s c base words claims seats k block seat new whole can read h same =
+    let there = seat_here s c base words claims seats k can.worker seat whole can.worker_there read in
     let old = h.seats_sized k seat there in
-    let P : Worker → Type 0 = λ w. IsSizedWorker c w in
-    sized_set c base words seats k new h
-    (subst P (sym same)
+    sized_set c base words seats k (finishing block seat) new h same
     record {
       loaded = old.loaded;
       grown = old.grown;
       done = length-set seat.done (block / 64) (bit_or (get_or seat.done (block / 64) 0) (2 ^ (block % 64))) ∙ old.done;
-    })
+    }
 
 -- ---- events
 pub state_loaded :

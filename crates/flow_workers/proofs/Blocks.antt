@@ -10,8 +10,8 @@ use Rattle.flow_form.specs.Shape.{In, blocks_of, done_size_of}
 use Rattle.flow_form.proofs.Words.{bit_kept, bit_new}
 use Rattle.flow_plain.proofs.BitsFollowing.{block_all}
 use Rattle.type_table.specs.Tables.{Held, IsOf, Opened, knowing}
-use Rattle.flow_workers.specs.PassSteps.{GivenAt, Steps, StepsOn}
-use Rattle.flow_workers.proofs.StepsOfPass.{seen_on, steps_trans}
+use Rattle.flow_workers.specs.PassSteps.{GivenAt, Steps}
+use Rattle.flow_workers.proofs.StepsOfPass.{seen_on, steps_knowing, steps_trans}
 
 -- what the loop over the rules of a block keeps
 pub record DoesRules (c : Constraints) (table : Opened) (before pass : Held) (first index : ℕ) : Type 0 where
@@ -57,18 +57,13 @@ pub steps_finish :
     (c : Constraints) (table : Opened) (before after : Held) (block : ℕ) → IsOf after table
     → after ≡ knowing before (finishing block before.view.worker) → Steps c table before after
 steps_finish c table before after block of knows =
-    let P : Held → Type 0 = λ p. StepsOn c before p in
-    record {
-      of = of;
-      on =
-          subst P (sym knows)
-          record {
-            loaded = λ row atom h. h;
-            grown = λ row atom h. h;
-            done = λ other h.
-                bit_kept before.view.worker.done (block / 64) (2 ^ (block % 64)) (other / 64) (other % 64) h;
-          };
-    }
+    steps_knowing c table before after (finishing block before.view.worker) of knows
+    (record {
+      loaded = λ row atom h. h;
+      grown = λ row atom h. h;
+      done = λ other h.
+          bit_kept before.view.worker.done (block / 64) (2 ^ (block % 64)) (other / 64) (other % 64) h;
+    })
 
 pub done_finish :
     (c : Constraints) (table : Opened) (before after : Held) (block : ℕ) → table.constraints ≡ c

@@ -1,6 +1,5 @@
 -- Which rows have been found grown, and which blocks settled, by a loop over them.
-use Rattle.std.proofs.Common.{ℕ, List, Vec, Global, length, Option, None, Some, Result, Ok, Err, IfOk, slice_get, ◌≡◌, ◌+◌, ◌*◌, ◌<◌, ◌≤◌, ◌⊎◌, ◌↔◌, inl, inr, ◌∙◌, arith, subst}
-use Rattle.std.specs.Int.{div_ceil}
+use Rattle.std.proofs.Common.{ℕ, List, Vec, Global, length, Option, None, Some, Result, Ok, Err, IfOk, slice_get, ◌≡◌, ◌+◌, ◌*◌, ◌<◌, ◌≤◌, ◌⊎◌, ◌↔◌, inl, inr, sym, ◌∙◌, arith, subst}
 use Rattle.std.proofs.lemmas.Bool.{cases_lt}
 use Rattle.std.proofs.lemmas.Grind.{div_ceil_times}
 use Rattle.bit_rows.specs.Members.{IsMember, IsSubset}
@@ -12,7 +11,7 @@ use Rattle.flow_form.specs.declared.rule.Test.{Test}
 use Rattle.flow_form.specs.declared.rule.Test.TheVariants.{Has, Other}
 use Rattle.flow_form.specs.Least.{Given, GivenByBlock, GivesAtom, TestHolds, Within}
 use Rattle.flow_form.specs.Shape.{In}
-use Rattle.flow_workers.specs.Rounds.{AreGrown, AreRests, BlockRests, GiveRests, GrewBetween, HasRows, RowWithin, RuleRests, TestRests}
+use Rattle.flow_workers.specs.Rounds.{AreGrown, AreRests, BlockRests, GiveRests, GrewBetween, RowWithin, RuleRests, TestRests}
 
 -- ---- rows
 
@@ -34,6 +33,35 @@ pub all_grown :
 all_grown c before after (Ok grown) h = grown_all c before after grown.items h
 all_grown c before after (Err error) h = tt
 
+-- those up to a row, and then those that are so
+grown_joined :
+    (c : Constraints) (before after grown items : List ℕ) (first middle end : ℕ) (Next : ℕ → Type 0)
+    → GrewBetween c before after first middle grown → first ≤ middle → middle ≤ end → length items ≡ length grown
+    → ((k : ℕ) → IsMember items k ↔ (IsMember grown k ⊎ Next k))
+    → ((k : ℕ) → Next k → (middle ≤ k) × (k < end) × ¬ RowWithin c after before k)
+    → ((k : ℕ) → middle ≤ k → k < end → ¬ Next k → RowWithin c after before k)
+    → GrewBetween c before after first end items
+grown_joined c before after grown items first middle end Next so_far order later size members grew rests =
+    record {
+      size = size ∙ so_far.size;
+      grew = λ k member.
+          elim ((members k).0 member) [
+            | inl old ↦
+                let h = so_far.grew k old in
+                let below : k < middle = h.1 in
+                (h.0, omega arith, h.2)
+            | inr new ↦
+                let h = grew k new in
+                let above : middle ≤ k = h.0 in
+                (omega arith, h.1, h.2)
+          ];
+      rests = λ k above below none.
+          elim (cases_lt k middle) [
+            | inl early ↦ so_far.rests k above early (λ m. none ((members k).1 (inl m)))
+            | inr late ↦ rests k (omega arith) below (λ m. none ((members k).1 (inr m)))
+          ];
+    }
+
 pub grown_new :
     (c : Constraints) (before after grown items here there : List ℕ) (first row : ℕ)
     → GrewBetween c before after first row grown → first ≤ row → length items ≡ length grown
@@ -42,28 +70,14 @@ pub grown_new :
     → ((atom : ℕ) → IsMember there atom ↔ In c before row atom) → ¬ IsSubset here there
     → GrewBetween c before after first (row + 1) items
 grown_new c before after grown items here there first row so_far order size members in_after in_before apart =
-    record {
-      size = size ∙ so_far.size;
-      grew = λ k member.
-          elim ((members k).0 member) [
-            | inl old ↦
-                let h = so_far.grew k old in
-                let below : k < row = h.1 in
-                (h.0, omega arith, h.2)
-            | inr new ↦
-                let same : row ≡ k = omega arith in
-                let At : ℕ → Type 0 = λ n. ¬ RowWithin c after before n in (
-                  omega arith,
-                  omega arith,
-                  subst At same (λ h. apart (λ atom m. (in_before atom).1 (h atom ((in_after atom).0 m)))),
-                )
-          ];
-      rests = λ k above below none.
-          elim (cases_lt k row) [
-            | inl old ↦ so_far.rests k above old (λ m. none ((members k).1 (inl m)))
-            | inr last ↦ absurd (none ((members k).1 (inr (omega arith))))
-          ];
-    }
+    let At : ℕ → Type 0 = λ n. ¬ RowWithin c after before n in
+    grown_joined c before after grown items first row (row + 1) (λ k. k ≡ row) so_far order (omega arith) size members
+    (λ k same. (
+      omega arith,
+      omega arith,
+      subst At (sym same) (λ h. apart (λ atom m. (in_before atom).1 (h atom ((in_after atom).0 m)))),
+    ))
+    (λ k above below none. absurd (none (omega arith)))
 
 pub grown_same :
     (c : Constraints) (before after grown here there : List ℕ) (first row : ℕ)
@@ -95,34 +109,18 @@ pub grown_both :
     → middle ≤ end → length both ≡ length one → ((k : ℕ) → IsMember both k ↔ (IsMember one k ⊎ IsMember two k))
     → GrewBetween c before after first end both
 grown_both c before after one two both first middle end of_one of_two order later size members =
-    record {
-      size = size ∙ of_one.size;
-      grew = λ k member.
-          elim ((members k).0 member) [
-            | inl x ↦
-                let h = of_one.grew k x in
-                let below : k < middle = h.1 in
-                (h.0, omega arith, h.2)
-            | inr y ↦
-                let h = of_two.grew k y in
-                let above : middle ≤ k = h.0 in
-                (omega arith, h.1, h.2)
-          ];
-      rests = λ k above below none.
-          elim (cases_lt k middle) [
-            | inl early ↦ of_one.rests k above early (λ m. none ((members k).1 (inl m)))
-            | inr late ↦ of_two.rests k (omega arith) below (λ m. none ((members k).1 (inr m)))
-          ];
-    }
+    grown_joined c before after one both first middle end (λ k. IsMember two k) of_one order later size members
+    of_two.grew of_two.rests
 
 -- ---- blocks
 
-pub settled_new :
-    (c : Constraints) (grown settled items : List ℕ) (first block : ℕ) → AreRests c grown first block settled
-    → first ≤ block → length items ≡ length settled
-    → ((k : ℕ) → IsMember items k ↔ (IsMember settled k ⊎ (k ≡ block))) → BlockRests c grown block
-    → AreRests c grown first (block + 1) items
-settled_new c grown settled items first block so_far order size members rests =
+-- those up to a block, and then those that are so
+settled_joined :
+    (c : Constraints) (grown settled items : List ℕ) (first middle end : ℕ) (Next : ℕ → Type 0)
+    → AreRests c grown first middle settled → first ≤ middle → middle ≤ end → length items ≡ length settled
+    → ((k : ℕ) → IsMember items k ↔ (IsMember settled k ⊎ Next k))
+    → ((k : ℕ) → Next k ↔ ((middle ≤ k) × (k < end) × BlockRests c grown k)) → AreRests c grown first end items
+settled_joined c grown settled items first middle end Next so_far order later size members next =
     record {
       size = omega (arith, so_far.size);
       exact = λ k. (
@@ -130,20 +128,33 @@ settled_new c grown settled items first block so_far order size members rests =
             elim ((members k).0 member) [
               | inl old ↦
                   let h = (so_far.exact k).0 old in
-                  let below : k < block = h.1 in
+                  let below : k < middle = h.1 in
                   (h.0, omega arith, h.2)
               | inr new ↦
-                  let same : block ≡ k = omega arith in
-                  let At : ℕ → Type 0 = λ n. BlockRests c grown n in
-                  (omega arith, omega arith, subst At same rests)
+                  let h = (next k).0 new in
+                  let above : middle ≤ k = h.0 in
+                  (omega arith, h.1, h.2)
             ]),
         (λ h.
-            elim (cases_lt k block) [
-              | inl old ↦ (members k).1 (inl ((so_far.exact k).1 (h.0, old, h.2)))
-              | inr last ↦ let below : k < block + 1 = h.1 in (members k).1 (inr (omega arith))
+            elim (cases_lt k middle) [
+              | inl early ↦ (members k).1 (inl ((so_far.exact k).1 (h.0, early, h.2)))
+              | inr late ↦ (members k).1 (inr ((next k).1 (omega arith, h.1, h.2)))
             ]),
       );
     }
+
+pub settled_new :
+    (c : Constraints) (grown settled items : List ℕ) (first block : ℕ) → AreRests c grown first block settled
+    → first ≤ block → length items ≡ length settled
+    → ((k : ℕ) → IsMember items k ↔ (IsMember settled k ⊎ (k ≡ block))) → BlockRests c grown block
+    → AreRests c grown first (block + 1) items
+settled_new c grown settled items first block so_far order size members rests =
+    let At : ℕ → Type 0 = λ n. BlockRests c grown n in
+    settled_joined c grown settled items first block (block + 1) (λ k. k ≡ block) so_far order (omega arith) size members
+    (λ k. (
+      (λ same. (omega arith, omega arith, subst At (sym same) rests)),
+      (λ h. let above : block ≤ k = h.0 in let below : k < block + 1 = h.1 in omega arith),
+    ))
 
 pub settled_same :
     (c : Constraints) (grown settled : List ℕ) (first block : ℕ) → AreRests c grown first block settled
@@ -174,27 +185,7 @@ pub settled_both :
     → AreRests c grown middle end two → first ≤ middle → middle ≤ end → length both ≡ length one
     → ((k : ℕ) → IsMember both k ↔ (IsMember one k ⊎ IsMember two k)) → AreRests c grown first end both
 settled_both c grown one two both first middle end of_one of_two order later size members =
-    record {
-      size = omega (arith, of_one.size);
-      exact = λ k. (
-        (λ member.
-            elim ((members k).0 member) [
-              | inl x ↦
-                  let h = (of_one.exact k).0 x in
-                  let below : k < middle = h.1 in
-                  (h.0, omega arith, h.2)
-              | inr y ↦
-                  let h = (of_two.exact k).0 y in
-                  let above : middle ≤ k = h.0 in
-                  (omega arith, h.1, h.2)
-            ]),
-        (λ h.
-            elim (cases_lt k middle) [
-              | inl early ↦ (members k).1 (inl ((of_one.exact k).1 (h.0, early, h.2)))
-              | inr late ↦ (members k).1 (inr ((of_two.exact k).1 (omega arith, h.1, h.2)))
-            ]),
-      );
-    }
+    settled_joined c grown one both first middle end (λ k. IsMember two k) of_one order later size members of_two.exact
 
 -- the rules of a block below a place rest
 abbrev pub RulesRest : Constraints → (grown : List ℕ) → (block end : ℕ) → Type 0

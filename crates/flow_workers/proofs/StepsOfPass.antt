@@ -2,6 +2,7 @@
 use Rattle.std.proofs.Common.{ℕ, length, ◌≡◌, ◌%◌, ◌<◌, inl, inr, sym, ap, arith, subst, bit_or}
 use Rattle.bit_rows.proofs.Words.{bit_of_or}
 use Rattle.flow_form.specs.declared.constraints.Constraints.{Constraints}
+use Rattle.flow_form.specs.declared.event.Worker.{Worker}
 use Rattle.flow_form.specs.Least.{Given, Within}
 use Rattle.flow_form.specs.Race.{MaskWithin, Seen, growing, loading}
 use Rattle.flow_form.specs.Shape.{In, size_of}
@@ -37,22 +38,19 @@ pub seen_on :
 seen_on c table before after steps row atom h =
     elim h [ inl x ↦ inl (steps.on.loaded row atom x) | inr y ↦ inr (steps.on.grown row atom y) ]
 
+-- ---- what a pass knows after a step
+pub steps_knowing : (c : Constraints) (table : Opened) (before after : Held) (worker : Worker) → IsOf after table
+    → after ≡ knowing before worker → StepsOn c before (knowing before worker) → Steps c table before after
+steps_knowing c table before after worker of knows on =
+    let P : Held → Type 0 = λ p. StepsOn c before p in record { of = of; on = subst P (sym knows) on }
+
 -- ---- a load
 pub steps_load :
     (c : Constraints) (table : Opened) (before after : Held) (word found : ℕ) → IsOf after table
     → after ≡ knowing before (loading word found before.view.worker) → Steps c table before after
 steps_load c table before after word found of knows =
-    let P : Held → Type 0 = λ p. StepsOn c before p in
-    record {
-      of = of;
-      on =
-          subst P (sym knows)
-          record {
-            loaded = in_kept c before.view.worker.loaded word found;
-            grown = λ row atom h. h;
-            done = λ block h. h;
-          };
-    }
+    steps_knowing c table before after (loading word found before.view.worker) of knows
+    (record { loaded = in_kept c before.view.worker.loaded word found; grown = λ row atom h. h; done = λ block h. h })
 
 pub loaded_load :
     (c : Constraints) (table : Opened) (before after : Held) (word found : ℕ) → table.constraints ≡ c
@@ -70,17 +68,8 @@ pub steps_grow :
     (c : Constraints) (table : Opened) (before after : Held) (word bits : ℕ) → IsOf after table
     → after ≡ knowing before (growing word bits before.view.worker) → Steps c table before after
 steps_grow c table before after word bits of knows =
-    let P : Held → Type 0 = λ p. StepsOn c before p in
-    record {
-      of = of;
-      on =
-          subst P (sym knows)
-          record {
-            loaded = λ row atom h. h;
-            grown = in_kept c before.view.worker.grown word bits;
-            done = λ block h. h;
-          };
-    }
+    steps_knowing c table before after (growing word bits before.view.worker) of knows
+    (record { loaded = λ row atom h. h; grown = in_kept c before.view.worker.grown word bits; done = λ block h. h })
 
 pub seen_grow :
     (c : Constraints) (table : Opened) (before after : Held) (word mask found : ℕ) → table.constraints ≡ c

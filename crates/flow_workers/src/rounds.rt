@@ -114,14 +114,8 @@ fn first_round<R: AllocGlobal + Threads + Sync, G: Gate>(
     let settled = vec![in alloc; 0; c.blocks().div_ceil(64) as usize]?;
     let closed = round(rt, c, opened, settled.as_slice(), readers, workers, gate);
     let rows = closed.rows();
-    let grown = grown_rows(
-        rt,
-        alloc,
-        c,
-        base.words.as_slice(),
-        rows.words.as_slice(),
-        workers,
-    )?;
+    let (before, after) = (base.words.as_slice(), rows.words.as_slice());
+    let grown = grown_rows(rt, alloc, c, before, after, workers)?;
     Ok(Reached { closed, grown })
 }
 
@@ -147,13 +141,7 @@ fn next_round<R: AllocGlobal + Threads + Sync, G: Gate>(
     let closed = round(rt, c, opened, settled.as_slice(), readers, workers, gate);
     let base = last.closed.rows();
     let rows = closed.rows();
-    let grown = grown_rows(
-        rt,
-        alloc,
-        c,
-        base.words.as_slice(),
-        rows.words.as_slice(),
-        workers,
-    )?;
+    let (before, after) = (base.words.as_slice(), rows.words.as_slice());
+    let grown = grown_rows(rt, alloc, c, before, after, workers)?;
     Ok(Reached { closed, grown })
 }

@@ -4,11 +4,12 @@ use Rattle.std.proofs.Common.{ℕ, ◌+◌, List, [], ◌∷◌, Some}
 use Rattle.std.specs.Prelude.{pos, negsuc, false}
 use Rattle.scheme_base.specs.declared.lit.Lit.{Lit}
 use Rattle.scheme_base.specs.declared.lit.Lit.TheVariants as lit
+use Rattle.scheme_base.specs.declared.op.Op.{Op}
 use Rattle.scheme_base.specs.declared.op.Op.TheVariants as op
 use Rattle.scheme_base.specs.declared.pos.Pos.{Pos}
 use Rattle.scheme_base.proofs.Fixtures.{at}
 use Rattle.named_form.specs.Code.{Written, Ends, Then, Const, Prim, Call, If, TopGet}
-use Rattle.named_form.proofs.Programs.{lambda}
+use Rattle.named_form.proofs.Programs.{lambda, does, defining}
 
 -- where the library's text is said to stand
 abbrev library : Pos
@@ -55,6 +56,14 @@ integer_writer v l g =
     Then library ((v + 26) ∷ []) (Prim op.WriteChar ((v + 25) ∷ [])) (
     Ends (Some (v + 26)))))))))))) ∷
     []
+
+-- (write (OP a b)), where a and b are the literals behind those of `integer_writer`, and the column is that of b
+abbrev pub writing : Op → (column : ℕ) → List Written
+writing o column =
+    defining ((library, 1) ∷ (library, 2) ∷ []) (
+    does 1 4 (
+    (2, TopGet 0 false) ∷ (11, Const 8) ∷ (column, Const 9) ∷ (8, Prim o (5 ∷ 6 ∷ [])) ∷ (1, Call 4 (7 ∷ [])) ∷ [])) ∷
+    integer_writer 9 0 0
 
 -- (define (write-from s i)
 --   (if (%= i (%string-length s)) 0 (begin (%write-char (%string-ref s i)) (write-from s (%+ i 1)))))

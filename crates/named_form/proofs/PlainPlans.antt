@@ -1,41 +1,30 @@
 -- Plain plans of small programs: one is written out, and none breaks a part of a valid plan in its program's run.
-use Rattle.std.proofs.Common.{◌≡◌, ℕ, List, [], ◌∷◌, ◌++◌, Some, None, refl}
-use Rattle.std.specs.Prelude.{pos, true, false, replicate}
+use Rattle.std.proofs.Common.{◌≡◌, ℕ, List, [], ◌∷◌, Some, None, refl}
+use Rattle.std.specs.Prelude.{true, false, replicate}
+use Rattle.std.specs.List.{flat_map}
 use Rattle.scheme_base.specs.declared.lit.Lit.{Lit}
-use Rattle.scheme_base.specs.declared.lit.Lit.TheVariants as lit
 use Rattle.scheme_base.specs.declared.pos.Pos.{Pos}
 use Rattle.scheme_base.specs.declared.place.Mark.TheVariants.{Global}
 use Rattle.scheme_base.proofs.Fixtures.{at}
 use Rattle.named_form.specs.declared.plan.Repr.TheVariants.{Tagged}
 use Rattle.named_form.specs.Code.{Code, Counts, Written, Ends, Then, CallCC, Call, Closure, Copy, If, TopGet, labelled}
 use Rattle.named_form.specs.PlainPlan.{plain, used, waiting_in}
-use Rattle.named_form.proofs.Library.{integer_writer_lits}
-use Rattle.named_form.proofs.PlanParts.{Part, fails}
-use Rattle.named_form.proofs.Programs.{define, lambda, main}
-use Rattle.named_form.proofs.RunsThatEnd.{loop_procs, reentered_procs}
+use Rattle.named_form.proofs.PlanParts.{fails}
+use Rattle.named_form.proofs.Programs.{lambda, does, gives, defining, steps, choice}
+use Rattle.named_form.proofs.RunsThatEnd.{loop_procs, loop_lits, reentered_procs, reentered_lits}
 use Rattle.named_form.proofs.StorageHeld.{frames_procs, frames_lits, tail_procs, tail_lits, pair_procs, pair_lits, waiting_procs, rest_procs, rest_lits, box_procs, box_lits, closure_procs, closure_lits, record_procs, record_lits}
 
 -- (define (f x) (lambda () (if x (f x) (lambda () x))))(f (%call/cc f)): the call of f in the arm is a tail call
 abbrev nested_procs : List Written
 nested_procs =
-    main (
-    define (at 1 1) 0 1 0 (
-    Then (at 1 55) (2 ∷ []) (TopGet 0 false) (
-    Then (at 1 66) (3 ∷ []) (TopGet 0 false) (
-    Then (at 1 57) (4 ∷ []) (CallCC 3) (
-    Then (at 1 54) (5 ∷ []) (Call 2 (4 ∷ [])) (
-    Ends None)))))) ∷
-    lambda (at 1 1) (6 ∷ []) (
-    Then (at 1 15) (7 ∷ []) (Closure 2) (
-    Ends (Some 7))) ∷
+    defining ((at 1 1, 1) ∷ []) (
+    does 1 2 ((55, TopGet 0 false) ∷ (66, TopGet 0 false) ∷ (57, CallCC 3) ∷ (54, Call 2 (4 ∷ [])) ∷ [])) ∷
+    lambda (at 1 1) (6 ∷ []) (gives 1 7 ((15, Closure 2) ∷ [])) ∷
     lambda (at 1 15) [] (
-    Then (at 1 26) (8 ∷ []) (If 6
-    (Then (at 1 33) (9 ∷ []) (TopGet 0 false) (Then (at 1 32) (10 ∷ []) (Call 9 (6 ∷ [])) (Ends (Some 10))))
-    (Then (at 1 38) (11 ∷ []) (Closure 3) (Ends (Some 11)))) (
-    Ends (Some 8))) ∷
-    lambda (at 1 38) [] (
-    Ends (Some 6)) ∷
-    []
+    gives 1 8 (choice 26 6
+    (gives 1 9 ((33, TopGet 0 false) ∷ (32, Call 9 (6 ∷ [])) ∷ []))
+    (gives 1 11 ((38, Closure 3) ∷ [])) ∷ [])) ∷
+    lambda (at 1 38) [] (Ends (Some 6)) ∷ []
 
 nested : plain (record { procs = nested_procs; tops = 1; lits = [] })
     ≡ record {
@@ -84,35 +73,13 @@ no_value = refl
 
 -- Runs under plain plans
 
-abbrev broken : List Written → List Lit → (steps : ℕ) → List Part
-broken procs lits n = fails (plain (record { procs = procs; tops = 0; lits = lits })) procs lits n
+-- each a program with its literals and how many steps are looked at
+abbrev runs : List (List Written × List Lit × ℕ)
+runs =
+    (frames_procs, frames_lits, 20) ∷ (tail_procs, tail_lits, 20) ∷ (pair_procs, pair_lits, 20)
+    ∷ (waiting_procs, pair_lits, 20) ∷ (rest_procs, rest_lits, 20) ∷ (box_procs, box_lits, 20)
+    ∷ (closure_procs, closure_lits, 20) ∷ (record_procs, record_lits, 40) ∷ (loop_procs, loop_lits, 60)
+    ∷ (reentered_procs, reentered_lits, 80) ∷ []
 
-frames : broken frames_procs frames_lits 20 ≡ []
-frames = refl
-
-tail_call : broken tail_procs tail_lits 20 ≡ []
-tail_call = refl
-
-pair : broken pair_procs pair_lits 20 ≡ []
-pair = refl
-
-waiting : broken waiting_procs pair_lits 20 ≡ []
-waiting = refl
-
-rest_list : broken rest_procs rest_lits 20 ≡ []
-rest_list = refl
-
-box : broken box_procs box_lits 20 ≡ []
-box = refl
-
-closure : broken closure_procs closure_lits 20 ≡ []
-closure = refl
-
-continuation_twice : broken record_procs record_lits 40 ≡ []
-continuation_twice = refl
-
-loop : broken loop_procs (lit.Integer (pos 9) ∷ lit.Integer (pos 7) ∷ lit.Integer (pos 1) ∷ lit.Integer (pos 0) ∷ []) 60 ≡ []
-loop = refl
-
-reentered : broken reentered_procs (integer_writer_lits ++ lit.Integer (pos 0) ∷ lit.Boolean false ∷ lit.Integer (pos 0) ∷ lit.Integer (pos 1) ∷ lit.Integer (pos 3) ∷ lit.Unspecified ∷ []) 80 ≡ []
-reentered = refl
+none_broken : flat_map (λ r. fails (plain (record { procs = r.0; tops = 0; lits = r.1 })) r.0 r.1 r.2) runs ≡ []
+none_broken = refl

@@ -1,6 +1,6 @@
 -- Plans for small programs, and what of a valid plan fails first in a run.
-use Rattle.std.proofs.Common.{ℕ, zero, suc, List, [], ◌∷◌, ◌++◌}
-use Rattle.std.specs.Prelude.{Bool, true, false, ◌&&◌, not, replicate, length, slice_get}
+use Rattle.std.proofs.Common.{◌≡◌, ℕ, zero, suc, List, [], ◌∷◌, ◌++◌}
+use Rattle.std.specs.Prelude.{Bool, true, false, ◌&&◌, not, map, replicate, length, slice_get}
 use Rattle.std.specs.List.{flat_map}
 use Rattle.scheme_base.specs.declared.lit.Lit.{Lit}
 use Rattle.scheme_base.specs.declared.place.Mark.{Mark}
@@ -35,7 +35,7 @@ plan ps kept marks =
     }
 
 -- open storage after so many steps
-abbrev pub held : Plan → List Written → List Lit → ℕ → ℕ
+abbrev held : Plan → List Written → List Lit → ℕ → ℕ
 held plan procs lits n = open_bytes plan (program procs lits) (state procs lits quiet n)
 
 -- the parts of a valid plan: those that are looked at once, and those that are looked at in each state
@@ -110,3 +110,7 @@ fails_within (suc n) plan p s =
 abbrev pub fails : Plan → List Written → List Lit → ℕ → List Part
 fails plan procs lits n =
     let p = program procs lits in failing_once plan procs p ++ fails_within n plan p (start p quiet)
+
+-- open storage has so many bytes after each of these numbers of steps, and no part fails up to the last number
+abbrev pub Holds : Plan → List Written → List Lit → (steps bytes : List ℕ) → ℕ → Type 0
+Holds plan procs lits steps bytes n = (map (held plan procs lits) steps ≡ bytes) × (fails plan procs lits n ≡ [])

@@ -2,18 +2,19 @@
 --
 -- They refuse definitions that let such a plan pass: `escaping_pair` and `local_closure` ones where what is
 -- returned or entered by is not looked at, `local_list` one without the rule for `%apply`.
-use Rattle.std.proofs.Common.{◌≡◌, ℕ, List, [], ◌∷◌, ◌++◌, Some, None, refl}
+use Rattle.std.proofs.Common.{◌≡◌, ℕ, List, [], ◌∷◌, ◌++◌, Some, refl}
 use Rattle.std.specs.Prelude.{pos, Bool, true, false, replicate}
 use Rattle.scheme_base.specs.declared.lit.Lit.{Lit}
 use Rattle.scheme_base.specs.declared.lit.Lit.TheVariants as lit
 use Rattle.scheme_base.specs.declared.op.Op.TheVariants as op
+use Rattle.scheme_base.specs.declared.pos.Pos.{Pos}
 use Rattle.scheme_base.specs.declared.place.Mark.TheVariants.{Local, Global}
 use Rattle.scheme_base.specs.declared.place.Stated.TheVariants as stated
 use Rattle.named_form.specs.declared.plan.Plan.{Plan}
 use Rattle.named_form.specs.declared.plan.Repr.TheVariants as repr
-use Rattle.named_form.specs.Code.{Written, Ends, Then, Const, Copy, Prim, Call, Apply, CallCC, If, Closure, TopGet, TopSet, TopDefine, program}
+use Rattle.named_form.specs.Code.{Act, Written, Ends, Const, Copy, Prim, Call, Apply, CallCC, Closure, TopGet, TopSet, TopDefine, program}
 use Rattle.named_form.specs.ValidPlan.{ValidPlan}
-use Rattle.named_form.proofs.Programs.{main, lambda, define}
+use Rattle.named_form.proofs.Programs.{main, lambda, define, steps, does, gives, calling, defining, choice}
 use Rattle.scheme_base.proofs.Fixtures.{at, quiet}
 use Rattle.named_form.proofs.PlanParts.{plan, used, fails, Reached, Fictions, Homes, Pointers, Lists, Checks, Bare, QuietCalls, CapturedGlobal, CaptureModes, CaptureEntries, CaptureTails, Compared, Begun, KeptFree, GlobalsOwn, HeldOrNot}
 use Rattle.named_form.proofs.StorageHeld.{frames_procs, frames_lits, frames_plan, tail_procs, tail_lits, tail_plan, pair_procs, pair_lits, local_plan, closure_procs, closure_lits, closure_plan, record_procs, record_lits, record_plan}
@@ -24,16 +25,8 @@ never h = cc
 -- (define (f n) (%cons n n))(f 1): the pair is returned
 abbrev escaping_pair_procs : List Written
 escaping_pair_procs =
-    main (
-    define (at 1 1) 0 1 0 (
-    Then (at 1 28) (2 ∷ []) (TopGet 0 false) (
-    Then (at 1 30) (3 ∷ []) (Const 0) (
-    Then (at 1 27) (4 ∷ []) (Call 2 (3 ∷ [])) (
-    Ends None))))) ∷
-    lambda (at 1 1) (5 ∷ []) (
-    Then (at 1 15) (6 ∷ []) (Prim op.Cons (5 ∷ 5 ∷ [])) (
-    Ends (Some 6))) ∷
-    []
+    calling ((at 1 1, 1) ∷ []) 0 28 30 27 ∷
+    lambda (at 1 1) (5 ∷ []) (gives 1 6 ((15, Prim op.Cons (5 ∷ 5 ∷ [])) ∷ [])) ∷ []
 
 abbrev one : List Lit
 one = lit.Integer (pos 1) ∷ []
@@ -54,19 +47,9 @@ escaping_pair_stays = refl
 -- (define (f x) (let ((g (lambda () x))) (g)))(f 1): a tail call of a local closure
 abbrev local_closure_procs : List Written
 local_closure_procs =
-    main (
-    define (at 1 1) 0 1 0 (
-    Then (at 1 46) (2 ∷ []) (TopGet 0 false) (
-    Then (at 1 48) (3 ∷ []) (Const 0) (
-    Then (at 1 45) (4 ∷ []) (Call 2 (3 ∷ [])) (
-    Ends None))))) ∷
-    lambda (at 1 1) (5 ∷ []) (
-    Then (at 1 24) (6 ∷ []) (Closure 2) (
-    Then (at 1 15) (7 ∷ []) (Copy 6) (
-    Then (at 1 40) (8 ∷ []) (Call 7 []) (
-    Ends (Some 8))))) ∷
-    lambda (at 1 24) [] (Ends (Some 5)) ∷
-    []
+    calling ((at 1 1, 1) ∷ []) 0 46 48 45 ∷
+    lambda (at 1 1) (5 ∷ []) (gives 1 6 ((24, Closure 2) ∷ (15, Copy 6) ∷ (40, Call 7 []) ∷ [])) ∷
+    lambda (at 1 24) [] (Ends (Some 5)) ∷ []
 
 abbrev local_closure_plan : Plan
 local_closure_plan = plan local_closure_procs ([] ∷ [] ∷ (5 ∷ []) ∷ []) (Global ∷ Local ∷ [])
@@ -83,21 +66,11 @@ closure_stays = refl
 -- (define (f x) (%apply g (%cons x '())))(define (g y) y)(f 1): a tail call with a local list
 abbrev local_list_procs : List Written
 local_list_procs =
-    main (
-    define (at 1 1) 0 1 0 (
-    define (at 1 40) 2 2 1 (
-    Then (at 1 57) (4 ∷ []) (TopGet 0 false) (
-    Then (at 1 59) (5 ∷ []) (Const 1) (
-    Then (at 1 56) (6 ∷ []) (Call 4 (5 ∷ [])) (
-    Ends None)))))) ∷
+    calling ((at 1 1, 1) ∷ (at 1 40, 2) ∷ []) 1 57 59 56 ∷
     lambda (at 1 1) (7 ∷ []) (
-    Then (at 1 23) (8 ∷ []) (TopGet 1 false) (
-    Then (at 1 34) (9 ∷ []) (Const 0) (
-    Then (at 1 25) (10 ∷ []) (Prim op.Cons (7 ∷ 9 ∷ [])) (
-    Then (at 1 15) (11 ∷ []) (Apply 8 10) (
-    Ends (Some 11)))))) ∷
-    lambda (at 1 40) (12 ∷ []) (Ends (Some 12)) ∷
-    []
+    gives 1 8 (
+    (23, TopGet 1 false) ∷ (34, Const 0) ∷ (25, Prim op.Cons (7 ∷ 9 ∷ [])) ∷ (15, Apply 8 10) ∷ [])) ∷
+    lambda (at 1 40) (12 ∷ []) (Ends (Some 12)) ∷ []
 
 abbrev nil_and_one : List Lit
 nil_and_one = lit.Nil ∷ lit.Integer (pos 1) ∷ []
@@ -125,11 +98,7 @@ unreached_body = refl
 -- (%car '()), without the check that refuses it
 abbrev unchecked_procs : List Written
 unchecked_procs =
-    main (
-    Then (at 1 7) (0 ∷ []) (Const 0) (
-    Then (at 1 1) (1 ∷ []) (Prim op.Car (0 ∷ [])) (
-    Ends None))) ∷
-    []
+    main (does 1 0 ((7, Const 0) ∷ (1, Prim op.Car (0 ∷ [])) ∷ [])) ∷ []
 
 unchecked : fails (record (plan unchecked_procs ([] ∷ []) []) { reprs = record { vars = []; blocks = true ∷ []; steps = used ∷ record { reached = true; checked = false } ∷ [] } }) unchecked_procs (lit.Nil ∷ []) 20 ≡ Checks ∷ []
 unchecked = refl
@@ -158,19 +127,12 @@ nothing_kept = refl
 -- (define (m) (lambda (x) x))(%eqv? (m) (m)): two closures of one procedure are told apart
 abbrev told_procs : List Written
 told_procs =
-    main (
-    define (at 1 1) 0 1 0 (
-    Then (at 1 36) (2 ∷ []) (TopGet 0 false) (
-    Then (at 1 35) (3 ∷ []) (Call 2 []) (
-    Then (at 1 40) (4 ∷ []) (TopGet 0 false) (
-    Then (at 1 39) (5 ∷ []) (Call 4 []) (
-    Then (at 1 28) (6 ∷ []) (Prim op.Eqv (3 ∷ 5 ∷ [])) (
-    Ends None))))))) ∷
-    lambda (at 1 1) [] (
-    Then (at 1 13) (7 ∷ []) (Closure 2) (
-    Ends (Some 7))) ∷
-    lambda (at 1 13) (8 ∷ []) (Ends (Some 8)) ∷
-    []
+    defining ((at 1 1, 1) ∷ []) (
+    does 1 2 (
+    (36, TopGet 0 false) ∷ (35, Call 2 []) ∷ (40, TopGet 0 false) ∷ (39, Call 4 []) ∷
+    (28, Prim op.Eqv (3 ∷ 5 ∷ [])) ∷ [])) ∷
+    lambda (at 1 1) [] (gives 1 7 ((13, Closure 2) ∷ [])) ∷
+    lambda (at 1 13) (8 ∷ []) (Ends (Some 8)) ∷ []
 
 abbrev told_plan : Plan
 told_plan = plan told_procs ([] ∷ [] ∷ [] ∷ []) (Global ∷ Global ∷ [])
@@ -197,11 +159,7 @@ not_recorded = refl
 -- (call-with-current-continuation 5): the program captures, and its call is in no mode of its own
 abbrev no_procedure_procs : List Written
 no_procedure_procs =
-    main (
-    Then (at 1 33) (0 ∷ []) (Const 0) (
-    Then (at 1 1) (1 ∷ []) (CallCC 0) (
-    Ends None))) ∷
-    []
+    main (does 1 0 ((33, Const 0) ∷ (1, CallCC 0) ∷ [])) ∷ []
 
 abbrev no_procedure_plan : Plan
 no_procedure_plan =
@@ -214,25 +172,12 @@ no_procedure = refl
 -- and its call of f has the wrong count
 abbrev wrong_count_procs : List Written
 wrong_count_procs =
-    main (
-    define (at 1 1) 0 1 0 (
-    define (at 1 63) 2 3 1 (
-    Then (at 1 80) (4 ∷ []) (TopGet 0 false) (
-    Then (at 1 82) (5 ∷ []) (Const 0) (
-    Then (at 1 79) (6 ∷ []) (Call 4 (5 ∷ [])) (
-    Then (at 1 85) (7 ∷ []) (TopGet 1 false) (
-    Then (at 1 84) (8 ∷ []) (Call 7 []) (
-    Ends None)))))))) ∷
-    lambda (at 1 1) (9 ∷ []) (
-    Then (at 1 47) (10 ∷ []) (Closure 2) (
-    Then (at 1 15) (11 ∷ []) (CallCC 10) (
-    Ends (Some 11)))) ∷
+    defining ((at 1 1, 1) ∷ (at 1 63, 3) ∷ []) (
+    does 1 4 (
+    (80, TopGet 0 false) ∷ (82, Const 0) ∷ (79, Call 4 (5 ∷ [])) ∷ (85, TopGet 1 false) ∷ (84, Call 7 []) ∷ [])) ∷
+    lambda (at 1 1) (9 ∷ []) (gives 1 10 ((47, Closure 2) ∷ (15, CallCC 10) ∷ [])) ∷
     lambda (at 1 47) (12 ∷ []) (Ends (Some 12)) ∷
-    lambda (at 1 63) [] (
-    Then (at 1 76) (13 ∷ []) (TopGet 0 false) (
-    Then (at 1 75) (14 ∷ []) (Call 13 []) (
-    Ends (Some 14)))) ∷
-    []
+    lambda (at 1 63) [] (gives 1 13 ((76, TopGet 0 false) ∷ (75, Call 13 []) ∷ [])) ∷ []
 
 abbrev wrong_count_plan : Plan
 wrong_count_plan =
@@ -245,46 +190,25 @@ wrong_count = refl
 
 -- A top-level variable is looked at for the value that it has.
 
--- (define g #f)(define (f x) (begin (set! g (cons x x)) (set! g #f) 1))(f 1)
-abbrev forgotten_procs : List Written
-forgotten_procs =
+-- (define g #f)(define (f x) (begin (set! g (cons x x)) ..))(f 1), where the columns are those of the last call
+abbrev keeping : (lit operator operand call : ℕ) → (more : List (ℕ × Act Pos)) → List Written
+keeping l f o c more =
     main (
-    Then (at 1 11) (0 ∷ []) (Const 0) (
-    Then (at 1 1) (1 ∷ []) (TopDefine 0 0) (
+    steps 1 0 ((11, Const 0) ∷ (1, TopDefine 0 0) ∷ []) (
     define (at 1 14) 2 1 1 (
-    Then (at 1 71) (4 ∷ []) (TopGet 1 false) (
-    Then (at 1 73) (5 ∷ []) (Const 3) (
-    Then (at 1 70) (6 ∷ []) (Call 4 (5 ∷ [])) (
-    Ends None))))))) ∷
-    lambda (at 1 14) (7 ∷ []) (
-    Then (at 1 43) (8 ∷ []) (Prim op.Cons (7 ∷ 7 ∷ [])) (
-    Then (at 1 35) (9 ∷ []) (TopSet 0 8 false) (
-    Then (at 1 63) (10 ∷ []) (Const 1) (
-    Then (at 1 55) (11 ∷ []) (TopSet 0 10 false) (
-    Then (at 1 67) (12 ∷ []) (Const 2) (
-    Ends (Some 12))))))) ∷
-    []
+    does 1 4 ((f, TopGet 1 false) ∷ (o, Const l) ∷ (c, Call 4 (5 ∷ [])) ∷ [])))) ∷
+    lambda (at 1 14) (7 ∷ []) (gives 1 8 ((43, Prim op.Cons (7 ∷ 7 ∷ [])) ∷ (35, TopSet 0 8 false) ∷ more)) ∷ []
+
+-- .. is (set! g #f) 1
+abbrev forgotten_procs : List Written
+forgotten_procs = keeping 3 71 73 70 ((63, Const 1) ∷ (55, TopSet 0 10 false) ∷ (67, Const 2) ∷ [])
 
 forgotten : fails (plan forgotten_procs ([] ∷ [] ∷ []) (Global ∷ Local ∷ [])) forgotten_procs (lit.Boolean false ∷ lit.Boolean false ∷ lit.Integer (pos 1) ∷ lit.Integer (pos 1) ∷ []) 30 ≡ []
 forgotten = refl
 
--- (define g #f)(define (f x) (begin (set! g (cons x x)) 1))(f 1)
+-- .. is 1
 abbrev remembered_procs : List Written
-remembered_procs =
-    main (
-    Then (at 1 11) (0 ∷ []) (Const 0) (
-    Then (at 1 1) (1 ∷ []) (TopDefine 0 0) (
-    define (at 1 14) 2 1 1 (
-    Then (at 1 59) (4 ∷ []) (TopGet 1 false) (
-    Then (at 1 61) (5 ∷ []) (Const 2) (
-    Then (at 1 58) (6 ∷ []) (Call 4 (5 ∷ [])) (
-    Ends None))))))) ∷
-    lambda (at 1 14) (7 ∷ []) (
-    Then (at 1 43) (8 ∷ []) (Prim op.Cons (7 ∷ 7 ∷ [])) (
-    Then (at 1 35) (9 ∷ []) (TopSet 0 8 false) (
-    Then (at 1 55) (10 ∷ []) (Const 1) (
-    Ends (Some 10))))) ∷
-    []
+remembered_procs = keeping 2 59 61 58 ((55, Const 1) ∷ [])
 
 remembered : fails (plan remembered_procs ([] ∷ [] ∷ []) (Global ∷ Local ∷ [])) remembered_procs (lit.Boolean false ∷ lit.Integer (pos 1) ∷ lit.Integer (pos 1) ∷ []) 30 ≡ Pointers ∷ []
 remembered = refl
@@ -292,14 +216,8 @@ remembered = refl
 -- (define (g y) y)(%apply g ..), where the check of the last step is dropped
 abbrev applied_procs : List Written
 applied_procs =
-    main (
-    define (at 1 1) 0 1 0 (
-    Then (at 1 25) (2 ∷ []) (TopGet 0 false) (
-    Then (at 1 27) (3 ∷ []) (Const 0) (
-    Then (at 1 17) (4 ∷ []) (Apply 2 3) (
-    Ends None))))) ∷
-    lambda (at 1 1) (5 ∷ []) (Ends (Some 5)) ∷
-    []
+    defining ((at 1 1, 1) ∷ []) (does 1 2 ((25, TopGet 0 false) ∷ (27, Const 0) ∷ (17, Apply 2 3) ∷ [])) ∷
+    lambda (at 1 1) (5 ∷ []) (Ends (Some 5)) ∷ []
 
 abbrev unchecked_apply : Plan
 unchecked_apply =
@@ -349,12 +267,8 @@ stated_and_held = refl
 abbrev choice_procs : List Written
 choice_procs =
     main (
-    Then (at 1 5) (0 ∷ []) (Const 0) (
-    Then (at 1 1) (1 ∷ []) (If 0
-    (Then (at 1 8) (2 ∷ []) (Const 1) (Ends (Some 2)))
-    (Then (at 1 10) (3 ∷ []) (Const 2) (Ends (Some 3)))) (
-    Ends None))) ∷
-    []
+    does 1 0 (
+    (5, Const 0) ∷ choice 1 0 (gives 1 2 ((8, Const 1) ∷ [])) (gives 1 3 ((10, Const 2) ∷ [])) ∷ [])) ∷ []
 
 abbrev choice_lits : List Lit
 choice_lits = lit.Boolean true ∷ lit.Integer (pos 1) ∷ lit.Integer (pos 2) ∷ []
@@ -375,14 +289,8 @@ other_arm_unreached = refl
 -- (%call/cc (lambda (k) 1)): the program captures, and enters a procedure that does not
 abbrev callcc_procs : List Written
 callcc_procs =
-    main (
-    Then (at 1 11) (0 ∷ []) (Closure 1) (
-    Then (at 1 1) (1 ∷ []) (CallCC 0) (
-    Ends None))) ∷
-    lambda (at 1 11) (2 ∷ []) (
-    Then (at 1 23) (3 ∷ []) (Const 0) (
-    Ends (Some 3))) ∷
-    []
+    main (does 1 0 ((11, Closure 1) ∷ (1, CallCC 0) ∷ [])) ∷
+    lambda (at 1 11) (2 ∷ []) (gives 1 3 ((23, Const 0) ∷ [])) ∷ []
 
 abbrev callcc_plan : (recording : List ℕ) → Plan
 callcc_plan recording =

@@ -7,10 +7,10 @@ use Rattle.scheme_base.specs.Constants.{Integer, Undefined}
 use Rattle.scheme_base.specs.Outside.{Exits}
 use Rattle.named_form.specs.Code.{program}
 use Rattle.named_form.specs.NamedRun.{start}
-use Rattle.named_form.specs.Valid.{Form, WellFormed, Valid, sure_next}
+use Rattle.named_form.specs.Valid.{Form, Literals, WellFormed, Valid, sure_next}
 use Rattle.named_form.proofs.RunsThatStop.{always}
 use Rattle.named_form.proofs.StorageHeld.{box_procs, box_lits}
-use Rattle.named_form.proofs.RunsThatEnd.{loop_procs}
+use Rattle.named_form.proofs.RunsThatEnd.{loop_procs, loop_lits}
 use Rattle.named_form.proofs.RunsThatFail.{hole_procs}
 
 -- the program with a box
@@ -20,27 +20,16 @@ box_form = record { procs = box_procs; tops = 1; lits = box_lits }
 well_formed : WellFormed box_form
 unfolding IsDistinct
 well_formed =
+    let literals : Literals box_form =
     record {
-      names = search rules;
-      binds = search rules;
-      takes = search rules;
-      placed = search rules;
-      counted = record { procs = lit< tt; vars = lit< tt };
-      bodies = search rules;
-      made = record { once = search rules; each = search rules; later = search rules };
-      numbered = refl;
-      scoped = record { closed = refl; inside = search rules };
-      boxes = search rules;
-      literals =
-          record {
-            firsts = 0 ∷ 1 ∷ [];
-            laid = (1, Integer (pos 1), refl, refl, (refl, refl), (2, Integer (pos 2), refl, refl, (refl, refl), refl));
-            named = search rules;
-            needed = search rules;
-            apart = search rules;
-            defined = search rules;
-          };
-    }
+      firsts = 0 ∷ 1 ∷ [];
+      laid = (1, Integer (pos 1), refl, refl, (refl, refl), (2, Integer (pos 2), refl, refl, (refl, refl), refl));
+      named = search rules;
+      needed = search rules;
+      apart = search rules;
+      defined = search rules;
+    } in
+    search (rules, lit<, literals)
 
 valid : Valid box_form
 valid =
@@ -53,53 +42,31 @@ valid =
     }
 
 -- the one with closures that know each other
-loop_is_well_formed : WellFormed (record { procs = loop_procs; tops = 0; lits = (lit.Integer (pos 9) ∷ lit.Integer (pos 7) ∷ lit.Integer (pos 1) ∷ lit.Integer (pos 0) ∷ []) })
+loop_is_well_formed : WellFormed (record { procs = loop_procs; tops = 0; lits = loop_lits })
 unfolding IsDistinct
 loop_is_well_formed =
+    let literals : Literals (record { procs = loop_procs; tops = 0; lits = loop_lits }) =
     record {
-      names = search rules;
-      binds = search rules;
-      takes = search rules;
-      placed = search rules;
-      counted = record { procs = lit< tt; vars = lit< tt };
-      bodies = search rules;
-      made = record { once = search rules; each = search rules; later = search rules };
-      numbered = refl;
-      scoped = record { closed = refl; inside = search rules };
-      boxes = search rules;
-      literals =
-          record {
-            firsts = 0 ∷ 1 ∷ 2 ∷ 3 ∷ [];
-            laid = (1, Integer (pos 9), refl, refl, (refl, refl), (2, Integer (pos 7), refl, refl, (refl, refl), (3, Integer (pos 1), refl, refl, (refl, refl), (4, Integer (pos 0), refl, refl, (refl, refl), refl))));
-            named = search rules;
-            needed = search rules;
-            apart = search rules;
-            defined = search rules;
-          };
-    }
+      firsts = 0 ∷ 1 ∷ 2 ∷ 3 ∷ [];
+      laid = (1, Integer (pos 9), refl, refl, (refl, refl), (2, Integer (pos 7), refl, refl, (refl, refl), (3, Integer (pos 1), refl, refl, (refl, refl), (4, Integer (pos 0), refl, refl, (refl, refl), refl))));
+      named = search rules;
+      needed = search rules;
+      apart = search rules;
+      defined = search rules;
+    } in
+    search (rules, lit<, literals)
 
 -- the one whose variable is read before it has a value
-hole_is_well_formed : WellFormed (record { procs = hole_procs; tops = 0; lits = (lit.Integer (pos 1) ∷ lit.Undefined ∷ lit.Undefined ∷ []) })
+hole_is_well_formed : WellFormed (record { procs = hole_procs; tops = 0; lits = lit.Integer (pos 1) ∷ lit.Undefined ∷ lit.Undefined ∷ [] })
 unfolding IsDistinct
 hole_is_well_formed =
+    let literals : Literals (record { procs = hole_procs; tops = 0; lits = lit.Integer (pos 1) ∷ lit.Undefined ∷ lit.Undefined ∷ [] }) =
     record {
-      names = search rules;
-      binds = search rules;
-      takes = search rules;
-      placed = search rules;
-      counted = record { procs = lit< tt; vars = lit< tt };
-      bodies = search rules;
-      made = record { once = search rules; each = search rules; later = search rules };
-      numbered = refl;
-      scoped = record { closed = refl; inside = search rules };
-      boxes = search rules;
-      literals =
-          record {
-            firsts = 0 ∷ 1 ∷ 2 ∷ [];
-            laid = (1, Integer (pos 1), refl, refl, (refl, refl), (2, Undefined, refl, tt, (refl, refl), (3, Undefined, refl, tt, (refl, refl), refl)));
-            named = search rules;
-            needed = search rules;
-            apart = search rules;
-            defined = search rules;
-          };
-    }
+      firsts = 0 ∷ 1 ∷ 2 ∷ [];
+      laid = (1, Integer (pos 1), refl, refl, (refl, refl), (2, Undefined, refl, tt, (refl, refl), (3, Undefined, refl, tt, (refl, refl), refl)));
+      named = search rules;
+      needed = search rules;
+      apart = search rules;
+      defined = search rules;
+    } in
+    search (rules, lit<, literals)

@@ -14,7 +14,7 @@ abbrev pub passed : ℕ → (State → Bool) → Program → Env → State → B
 passed zero test p env s = test s
 passed (suc n) test p env s = test s && passed n test p env (step p env s)
 
-both : (a b : Bool) → a && b ≡ true → (a ≡ true) × (b ≡ true)
+pub both : (a b : Bool) → a && b ≡ true → (a ≡ true) × (b ≡ true)
 both true b h = (refl, h)
 both false b h = cc
 

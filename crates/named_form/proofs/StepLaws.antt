@@ -1,19 +1,19 @@
 -- The laws of the named machine's steps.
-use Rattle.std.proofs.Common.{◌≡◌, ℕ, List, [], ◌++◌, Option, Some, None, refl, sym, ap, ◌∙◌, arith, append_assoc, append-nil, inl}
+use Rattle.std.proofs.Common.{◌≡◌, ◌≤◌, ℕ, List, [], ◌++◌, Option, Some, None, refl, sym, ap, ◌∙◌, arith, append_assoc, append-nil, inl}
 use Rattle.std.proofs.lemmas.List.{map-append}
 use Rattle.std.proofs.Math.Seq.{map-set_same}
 use Rattle.std.proofs.lemmas.Option.{get_or_from_slice_get}
 use Rattle.std.specs.Prelude.{map, slice_get, slice_set}
 use Rattle.scheme_base.specs.declared.env.Env.{Env}
 use Rattle.scheme_base.specs.Outside.{Ending}
-use Rattle.scheme_base.specs.Values.{Value, Integer, Character, False, True, Nil, Unspecified, Eof, Undefined, Object, Box, Content, Thing, Holding, Procedure}
+use Rattle.scheme_base.specs.Values.{Value, Box, Content, Thing, Holding, Procedure}
 use Rattle.scheme_base.specs.Operations.{sight, plain_change, changed}
 use Rattle.scheme_base.specs.Stops.{Stop}
 use Rattle.scheme_base.specs.Runs.{GrowsByOne}
 use Rattle.scheme_base.proofs.OperationLaws.{calls_once}
 use Rattle.scheme_base.specs.Runs.{Lawful}
 use Rattle.named_form.specs.Code.{Program}
-use Rattle.named_form.specs.NamedRun.{Callee, Maker, Entry, Boxed, World, State, store, box_at, box_number, with_content, step_from, step, trace_of, ending_from, ending_of, machine}
+use Rattle.named_form.specs.NamedRun.{Callee, Maker, Entry, Boxed, Point, World, State, store, box_at, box_number, with_content, step_from, step, trace_of, ending_from, ending_of, machine}
 use Rattle.named_form.specs.Laws.{outline, lasting, maker_of, Keeps}
 use Rattle.named_form.proofs.WorldsKept.{Stable, step_world}
 
@@ -69,6 +69,21 @@ lasting_changed m es n c (Some t) e =
     same_outline (Holding o d) = refl
     same_outline (Procedure f) = refl
 
+-- how the parts of a world are kept
+kept : (before w : World) (more : List Entry) → map lasting w.entries ≡ map lasting before.entries ++ more
+    → (more_boxes : List Maker) → map maker_of w.boxes ≡ map maker_of before.boxes ++ more_boxes
+    → (more_points : List Point) → w.points ≡ before.points ++ more_points → before.started ≤ w.started → Keeps before w
+kept before w more entries more_boxes boxes more_points points started =
+    record {
+      more = more;
+      entries = entries;
+      more_boxes = more_boxes;
+      boxes = boxes;
+      more_points = more_points;
+      points = points;
+      started = started;
+    }
+
 makers_kept : (bs : List Boxed) (n : ℕ) (v : Value) (b : Boxed) → slice_get bs n ≡ Some b
     → map maker_of (slice_set bs n (record b { value = v })) ≡ map maker_of bs
 makers_kept bs n v b e =
@@ -79,81 +94,38 @@ content_kept : (before w : World) (n : ℕ) (v : Value) (o : Option Boxed) → s
     → Keeps before w → Keeps before (with_content o n v w)
 content_kept before w n v None e h = h
 content_kept before w n v (Some b) e h =
-    record {
-      more = h.more;
-      entries = h.entries;
-      more_boxes = h.more_boxes;
-      boxes = makers_kept w.boxes n v b e ∙ h.boxes;
-      more_points = h.more_points;
-      points = h.points;
-      started = h.started;
-    }
+    kept before _ h.more h.entries h.more_boxes (makers_kept w.boxes n v b e ∙ h.boxes) h.more_points h.points h.started
 
 contents_kept : (before w : World) (box v : Value) → Keeps before w → Keeps before (with_content (box_at w box) (box_number box) v w)
 contents_kept before w (Box n) v h = content_kept before w n v (slice_get w.boxes n) refl h
-contents_kept before w (Integer z) v h = h
-contents_kept before w (Character byte) v h = h
-contents_kept before w False v h = h
-contents_kept before w True v h = h
-contents_kept before w Nil v h = h
-contents_kept before w Unspecified v h = h
-contents_kept before w Eof v h = h
-contents_kept before w Undefined v h = h
-contents_kept before w (Object n) v h = h
+contents_kept before w other v h = h
+
+with_more : {A B : Type 0} (f : A → B) (xs ys : List A) (before more : List B) → map f xs ≡ before ++ more
+    → map f (xs ++ ys) ≡ before ++ (more ++ map f ys)
+with_more f xs ys before more e =
+    map-append f xs ys ∙ (ap (λ zs. zs ++ map f ys) e ∙ append_assoc before more (map f ys))
 
 keeps_stable : (before : World) → Stable (Keeps before)
 keeps_stable before =
     record {
-      tops = λ w vars h. record { more = h.more; entries = h.entries; more_boxes = h.more_boxes; boxes = h.boxes; more_points = h.more_points; points = h.points; started = h.started };
+      tops = λ w vars h. kept before _ h.more h.entries h.more_boxes h.boxes h.more_points h.points h.started;
       entries = λ w es h.
-          record {
-            more = h.more ++ map lasting es;
-            entries =
-                map-append lasting w.entries es
-                ∙ (ap (λ xs. xs ++ map lasting es) h.entries
-                ∙ append_assoc (map lasting before.entries) h.more (map lasting es));
-            more_boxes = h.more_boxes;
-            boxes = h.boxes;
-            more_points = h.more_points;
-            points = h.points;
-            started = h.started;
-          };
+          kept before _ (h.more ++ map lasting es)
+          (with_more lasting w.entries es (map lasting before.entries) h.more h.entries)
+          h.more_boxes h.boxes h.more_points h.points h.started;
       changed = λ m w n c h.
-          record {
-            more = h.more;
-            entries = lasting_changed m w.entries n c (slice_get w.entries n) refl ∙ h.entries;
-            more_boxes = h.more_boxes;
-            boxes = h.boxes;
-            more_points = h.more_points;
-            points = h.points;
-            started = h.started;
-          };
+          kept before _ h.more (lasting_changed m w.entries n c (slice_get w.entries n) refl ∙ h.entries)
+          h.more_boxes h.boxes h.more_points h.points h.started;
       boxes = λ w bs h.
-          record {
-            more = h.more;
-            entries = h.entries;
-            more_boxes = h.more_boxes ++ map maker_of bs;
-            boxes =
-                map-append maker_of w.boxes bs
-                ∙ (ap (λ xs. xs ++ map maker_of bs) h.boxes
-                ∙ append_assoc (map maker_of before.boxes) h.more_boxes (map maker_of bs));
-            more_points = h.more_points;
-            points = h.points;
-            started = h.started;
-          };
+          kept before _ h.more h.entries (h.more_boxes ++ map maker_of bs)
+          (with_more maker_of w.boxes bs (map maker_of before.boxes) h.more_boxes h.boxes)
+          h.more_points h.points h.started;
       contents = λ w box v h. contents_kept before w box v h;
       points = λ w ps h.
-          record {
-            more = h.more;
-            entries = h.entries;
-            more_boxes = h.more_boxes;
-            boxes = h.boxes;
-            more_points = h.more_points ++ ps;
-            points = ap (λ xs. xs ++ ps) h.points ∙ append_assoc before.points h.more_points ps;
-            started = h.started;
-          };
+          kept before _ h.more h.entries h.more_boxes h.boxes (h.more_points ++ ps)
+          (ap (λ xs. xs ++ ps) h.points ∙ append_assoc before.points h.more_points ps) h.started;
       started = λ w h.
-          record { more = h.more; entries = h.entries; more_boxes = h.more_boxes; boxes = h.boxes; more_points = h.more_points; points = h.points; started = omega (arith, h.started) };
+          kept before _ h.more h.entries h.more_boxes h.boxes h.more_points h.points (omega (arith, h.started));
     }
 
 pub keeps : (p : Program) (env : Env) (s : State) → Keeps s.world (step p env s).world
@@ -171,4 +143,4 @@ keeps p env s =
     }
     in
     step_world (Keeps w) (keeps_stable w) p env s same
-    (λ m o vs. record { more = same.more; entries = same.entries; more_boxes = same.more_boxes; boxes = same.boxes; more_points = same.more_points; points = same.points; started = same.started })
+    (λ m o vs. kept w _ same.more same.entries same.more_boxes same.boxes same.more_points same.points same.started)

@@ -8,6 +8,7 @@ ghost use Rattle.named_form.specs.NamedRun.{State, machine, step};
 
 /// The laws of the named machine: a step is total, the machine is a lawful one, objects, boxes, return points
 /// and activations keep their numbers, and a state that has stopped holds what the state before it held.
+#[tactic(auto, using(crate::proofs::StepLaws::lawful, crate::proofs::StepLaws::keeps))]
 pub fn named_steps()
     ensures lawful { (p : Program) (env : Outside) → Lawful (machine p env) }
     ensures keeps { (p : Program) (env : Outside) (s : State) → Keeps s.world (step p env s).world }

@@ -1,11 +1,11 @@
 -- The instruction of a word is valid, and its word is that word: once for each format, and then for each
 -- row of the table.
 use Rattle.std.proofs.Common.{◌≡◌, ℕ, ◌+◌, ◌*◌, ◌/◌, ◌%◌, ◌<◌, ◌^◌, Bool, true, false, List, [], ◌∷◌, Some, refl, sym, ap, ◌∙◌, subst, arith}
-use Rattle.std.specs.Prelude.{unsigned_abs, nat_eq, ◌&&◌, if◌then◌else◌}
+use Rattle.std.specs.Prelude.{unsigned_abs, pos, nat_eq, ◌&&◌, if◌then◌else◌}
 use Rattle.std.proofs.lemmas.Int.{ints}
 use Rattle.rv_form.specs.declared.instr.Instr.{Instr}
 use Rattle.rv_form.specs.Numbers.{low_bytes, low_part, signed}
-use Rattle.rv_form.specs.Formats.{Format, FormatR, FormatI, FormatShift6, FormatShift5, FormatS, FormatB, FormatU, FormatJ, FormatWord, Fields, fields_of, word_in, IsInRange, IsWithin, opcode_of, funct3_of, funct7_of, above6_of, rd_of, rs1_of, rs2_of}
+use Rattle.rv_form.specs.Formats.{Format, FormatR, FormatI, FormatShift6, FormatShift5, FormatS, FormatB, FormatU, FormatJ, FormatWord, Fields, fields_of, word_in, IsInRange, IsWithin, IsAmount, opcode_of, funct3_of, funct7_of, above6_of, rd_of, rs1_of, rs2_of}
 use Rattle.rv_form.proofs.Words.{number_of, AllDecode, also}
 use Rattle.rv_form.specs.Instruction.{Row, RowR, RowI, RowShift6, RowShift5, RowS, RowB, RowU, RowJ, RowWord, rows, has_row, made_by, in_rows, instruction_of, format_of, word_of, IsValid, AllValid}
 
@@ -69,6 +69,9 @@ record Fits (w : ℕ) (format : Format) : Type 0 where
   is_word : word_in format ≡ w
   in_range : IsInRange format
 
+amount : (n bound : ℕ) → n < bound → IsAmount bound (pos n)
+amount n bound less = record { low = omega (arith, ints); high = omega (arith, ints) }
+
 fits_r : (w opcode funct3 funct7 : ℕ) → w < 2 ^ 32 → opcode_of w ≡ opcode → funct3_of w ≡ funct3 → funct7_of w ≡ funct7
     → Fits w (FormatR opcode funct3 funct7 (rd_of w) (rs1_of w) (rs2_of w))
 fits_r w opcode funct3 funct7 small a b c =
@@ -87,18 +90,12 @@ fits_i w opcode funct3 small a b =
 fits_shift6 : (w opcode funct3 above : ℕ) → w < 2 ^ 32 → opcode_of w ≡ opcode → funct3_of w ≡ funct3 → above6_of w ≡ above
     → Fits w (FormatShift6 opcode funct3 above (rd_of w) (rs1_of w) (fields_of w).imm_shift6)
 fits_shift6 w opcode funct3 above small a b c =
-    record {
-      is_word = omega arith;
-      in_range = (omega arith, omega arith, record { low = omega (arith, ints); high = omega (arith, ints) });
-    }
+    record { is_word = omega arith; in_range = (omega arith, omega arith, amount (w / 0x10_0000 % 64) 64 (omega arith)) }
 
 fits_shift5 : (w opcode funct3 above : ℕ) → w < 2 ^ 32 → opcode_of w ≡ opcode → funct3_of w ≡ funct3 → funct7_of w ≡ above
     → Fits w (FormatShift5 opcode funct3 above (rd_of w) (rs1_of w) (fields_of w).imm_shift5)
 fits_shift5 w opcode funct3 above small a b c =
-    record {
-      is_word = omega arith;
-      in_range = (omega arith, omega arith, record { low = omega (arith, ints); high = omega (arith, ints) });
-    }
+    record { is_word = omega arith; in_range = (omega arith, omega arith, amount (w / 0x10_0000 % 32) 32 (omega arith)) }
 
 fits_s : (w opcode funct3 : ℕ) → w < 2 ^ 32 → opcode_of w ≡ opcode → funct3_of w ≡ funct3
     → Fits w (FormatS opcode funct3 (rs1_of w) (rs2_of w) (fields_of w).imm_s)

@@ -1,4 +1,4 @@
-ghost use Rattle.std.specs.Prelude.{◌≡◌, ◌<◌, ◌<ℤ◌, pos, unsigned_abs};
+ghost use Rattle.std.specs.Prelude.{◌≡◌, ◌+◌, ◌*◌, ◌<◌, ◌<ℤ◌, pos, unsigned_abs};
 ghost use Rattle.rv_form.specs.Numbers.{low_part};
 ghost use Rattle.rv_form.specs.Formats.{r_word, i_word, shift6_word, shift5_word, s_word, b_word, u_word, j_word};
 ghost use Rattle.rv_form.specs.Instruction.{IsValid, word_of};
@@ -85,13 +85,17 @@ fn word(instr: Instr) -> u64
     }
 }
 
+/// The fields that words with a result and a first operand share.
+fn shared_fields(opcode: u8, funct3: u8, rd: u8, rs1: u8) -> u64
+    ensures { result ≡ opcode + 0x80 * rd + 0x1000 * funct3 + 0x8000 * rs1 }
+{
+    u64::from(opcode) + 0x80 * u64::from(rd) + 0x1000 * u64::from(funct3) + 0x8000 * u64::from(rs1)
+}
+
 fn r_word(opcode: u8, funct3: u8, funct7: u8, rd: u8, rs1: u8, rs2: u8) -> u64
     ensures { result ≡ r_word opcode funct3 funct7 rd rs1 rs2 }
 {
-    u64::from(opcode)
-        + 0x80 * u64::from(rd)
-        + 0x1000 * u64::from(funct3)
-        + 0x8000 * u64::from(rs1)
+    shared_fields(opcode, funct3, rd, rs1)
         + 0x10_0000 * u64::from(rs2)
         + 0x200_0000 * u64::from(funct7)
 }
@@ -99,21 +103,14 @@ fn r_word(opcode: u8, funct3: u8, funct7: u8, rd: u8, rs1: u8, rs2: u8) -> u64
 fn i_word(opcode: u8, funct3: u8, rd: u8, rs1: u8, imm: i32) -> u64
     ensures { result ≡ i_word opcode funct3 rd rs1 imm }
 {
-    u64::from(opcode)
-        + 0x80 * u64::from(rd)
-        + 0x1000 * u64::from(funct3)
-        + 0x8000 * u64::from(rs1)
-        + 0x10_0000 * low_bits(imm, 0x1000)
+    shared_fields(opcode, funct3, rd, rs1) + 0x10_0000 * low_bits(imm, 0x1000)
 }
 
 /// A shift by an amount of six bits, and the six bits above it.
 fn shift6_word(opcode: u8, funct3: u8, above: u8, rd: u8, rs1: u8, imm: i32) -> u64
     ensures { result ≡ shift6_word opcode funct3 above rd rs1 imm }
 {
-    u64::from(opcode)
-        + 0x80 * u64::from(rd)
-        + 0x1000 * u64::from(funct3)
-        + 0x8000 * u64::from(rs1)
+    shared_fields(opcode, funct3, rd, rs1)
         + 0x10_0000 * low_bits(imm, 64)
         + 0x400_0000 * u64::from(above)
 }
@@ -122,10 +119,7 @@ fn shift6_word(opcode: u8, funct3: u8, above: u8, rd: u8, rs1: u8, imm: i32) -> 
 fn shift5_word(opcode: u8, funct3: u8, above: u8, rd: u8, rs1: u8, imm: i32) -> u64
     ensures { result ≡ shift5_word opcode funct3 above rd rs1 imm }
 {
-    u64::from(opcode)
-        + 0x80 * u64::from(rd)
-        + 0x1000 * u64::from(funct3)
-        + 0x8000 * u64::from(rs1)
+    shared_fields(opcode, funct3, rd, rs1)
         + 0x10_0000 * low_bits(imm, 32)
         + 0x200_0000 * u64::from(above)
 }

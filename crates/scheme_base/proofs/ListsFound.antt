@@ -7,7 +7,7 @@ use Rattle.std.specs.List.{IsDistinct, list_any, AllByRecursion}
 use Rattle.std.proofs.lemmas.Bool.{cases_lt}
 use Rattle.std.proofs.lemmas.Option.{none-some, same_Some}
 use Rattle.std.proofs.lemmas.Map.Steps.{length-le_from_distinct_below}
-use Rattle.scheme_base.specs.Values.{Value, Integer, Character, False, True, Nil, Unspecified, Eof, Undefined, Object, Box}
+use Rattle.scheme_base.specs.Values.{Value, Object}
 use Rattle.scheme_base.specs.Operations.{Sight, held, Link, Ended, Further, Broken, link_of, link_at, linked, listed, items_at, number_of}
 use Rattle.scheme_base.specs.Laws.{IsList, Ends}
 
@@ -57,15 +57,7 @@ same_length s v (a ∷ vs) (b ∷ ws) h k =
 
 is_object : (s : Sight) (v a d : Value) → link_at s v ≡ Further a d → v ≡ Object (number_of v)
 is_object s (Object n) a d h = refl
-is_object s Nil a d h = cc
-is_object s (Integer z) a d h = cc
-is_object s (Character b) a d h = cc
-is_object s False a d h = cc
-is_object s True a d h = cc
-is_object s Unspecified a d h = cc
-is_object s Eof a d h = cc
-is_object s Undefined a d h = cc
-is_object s (Box n) a d h = cc
+is_object s v a d h = cc
 
 is_within : (s : Sight) → Ends s → (n : ℕ) (a d : Value) → link_at s (Object n) ≡ Further a d → n < s.size
 is_within s ends n a d h =

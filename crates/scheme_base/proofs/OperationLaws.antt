@@ -11,7 +11,7 @@ use Rattle.scheme_base.specs.declared.op.Op.TheVariants as op
 use Rattle.scheme_base.specs.declared.error.ErrKind.{ErrKind}
 use Rattle.scheme_base.specs.declared.error.ErrKind.TheVariants as kind
 use Rattle.scheme_base.specs.Outside.{Event, ReadByte, ReadEnd, Calls, next_fails, read_event, write_event, after_read, after_write}
-use Rattle.scheme_base.specs.Values.{Value, Integer, Character, False, True, Nil, Unspecified, Eof, Undefined, Object, Box, Content, Pair, String, Vector, Symbol, Blank, truth}
+use Rattle.scheme_base.specs.Values.{Value, Integer, Character, Unspecified, Object, Content, Pair, String, Vector, Symbol, Blank, truth}
 use Rattle.scheme_base.specs.Integers.{in_range}
 use Rattle.scheme_base.specs.Operands.{Kind, Any, AnInteger, ACharacter, APair, AString, AVector, ASymbol, Result, Truths, Numbers, Characters, Made, Held, Nothing, FromInput, Called, operands_of, result_of}
 use Rattle.scheme_base.specs.Operations.{Sight, Channels, Outcome, Answers, Changes, Passes, Fails, Breaks, held, called, content_at, is_procedure, is_pair, is_string, is_vector, is_symbol, fits, all_fit, whole, by, character, as_length, as_index, item_or, is_integer, is_character, is_boolean, is_nil, is_eof, same, integer_of, byte_of, modulo_of, chars_of, items_of, symbol_name, car_of, cdr_of, number_of, items_at, applied, captured, from_event, from_input, output_after, is_literal, is_constant, written_to, act, checked, nth, operate, channels_after}
@@ -126,15 +126,7 @@ first_fits s k ks (v ∷ vs) h = both (fits s k v) (all_fit s ks vs) h where
 -- what holds something is an object, and it is the one of its number
 pub numbered : (s : Sight) (v : Value) (is : Content → Bool) → is Blank ≡ false → is (content_at s v) ≡ true → v ≡ Object (number_of v)
 numbered s (Object n) is h k = refl
-numbered s (Integer z) is h k = cc
-numbered s (Character b) is h k = cc
-numbered s False is h k = cc
-numbered s True is h k = cc
-numbered s Nil is h k = cc
-numbered s Unspecified is h k = cc
-numbered s Eof is h k = cc
-numbered s Undefined is h k = cc
-numbered s (Box n) is h k = cc
+numbered s v is h k = cc
 
 gives : (env : Env) (s : Sight) (ch : Channels) (o : Op) (vs : List Value) → all_fit s (operands_of o) vs ≡ true
     → Gives (met_by s ch vs) (result_of o) (act env s ch o (content_at s (nth vs 0)) (nth vs 0) (nth vs 1) (nth vs 2))

@@ -235,23 +235,23 @@ pairs one other s t step (suc n) =
     in stopped)
     (pairs one other s t step n)))
 
+-- what is seen of both alike where both have room and where both are full is seen of both alike throughout
+seen_alike : {S T A : Type 0} (one : Confined S) (other : Confined T) (s : S) (t : T) → InStep one other s t
+    → (f : InHeap S → A) (g : InHeap T → A)
+    → ((k : ℕ) → g (Fits (after other.machine k t)) ≡ f (Fits (after one.machine k s)))
+    → ((k : ℕ) → g (Full (after other.machine k t)) ≡ f (Full (after one.machine k s)))
+    → (n : ℕ) → g (after (in_heap other) n (look other t)) ≡ f (after (in_heap one) n (look one s))
+seen_alike one other s t step f g room none n =
+    ⊎_elim
+    (λ (fit : (after (in_heap one) n (look one s) ≡ Fits (after one.machine n s)) × (after (in_heap other) n (look other t) ≡ Fits (after other.machine n t))).
+    ap g fit.1 ∙ (room n ∙ ap f (sym fit.0)))
+    (λ (full : (k : ℕ) × (after (in_heap one) n (look one s) ≡ Full (after one.machine k s)) × (after (in_heap other) n (look other t) ≡ Full (after other.machine k t))).
+    ap g full.2 ∙ (none full.0 ∙ ap f (sym full.1)))
+    (pairs one other s t step n)
+
 pub in_step : {S T : Type 0} (one : Confined S) (other : Confined T) (s : S) (t : T) → InStep one other s t
     → SameRuns (in_heap one) (in_heap other) (look one s) (look other t)
-in_step one other s t step = same_by_step (in_heap one) (in_heap other) (look one s) (look other t) trace ending where
-  trace : (n : ℕ) → trace_in other (after (in_heap other) n (look other t)) ≡ trace_in one (after (in_heap one) n (look one s))
-  trace n =
-      ⊎_elim
-      (λ (fit : (after (in_heap one) n (look one s) ≡ Fits (after one.machine n s)) × (after (in_heap other) n (look other t) ≡ Fits (after other.machine n t))).
-      ap (trace_in other) fit.1 ∙ (step.trace n ∙ ap (trace_in one) (sym fit.0)))
-      (λ (full : (k : ℕ) × (after (in_heap one) n (look one s) ≡ Full (after one.machine k s)) × (after (in_heap other) n (look other t) ≡ Full (after other.machine k t))).
-      ap (trace_in other) full.2 ∙ (step.trace full.0 ∙ ap (trace_in one) (sym full.1)))
-      (pairs one other s t step n)
-
-  ending : (n : ℕ) → ending_in other (after (in_heap other) n (look other t)) ≡ ending_in one (after (in_heap one) n (look one s))
-  ending n =
-      ⊎_elim
-      (λ (fit : (after (in_heap one) n (look one s) ≡ Fits (after one.machine n s)) × (after (in_heap other) n (look other t) ≡ Fits (after other.machine n t))).
-      ap (ending_in other) fit.1 ∙ (step.ending n ∙ ap (ending_in one) (sym fit.0)))
-      (λ (full : (k : ℕ) × (after (in_heap one) n (look one s) ≡ Full (after one.machine k s)) × (after (in_heap other) n (look other t) ≡ Full (after other.machine k t))).
-      ap (ending_in other) full.2 ∙ (ap Some step.full ∙ ap (ending_in one) (sym full.1)))
-      (pairs one other s t step n)
+in_step one other s t step =
+    same_by_step (in_heap one) (in_heap other) (look one s) (look other t)
+    (seen_alike one other s t step (trace_in one) (trace_in other) step.trace step.trace)
+    (seen_alike one other s t step (ending_in one) (ending_in other) step.ending (λ k. ap Some step.full))

@@ -10,6 +10,7 @@ ghost use Rattle.scheme_base.specs.Values.{Value};
 /// The laws of all operations: which types they refuse, what they come to otherwise, what they read, which
 /// lists `%apply` takes, and where the values of an outcome come from. They do the same under another
 /// numbering of objects, and keep to integers in range and characters that are bytes.
+#[tactic(auto, using(crate::proofs::OperationLaws::decides, crate::proofs::ListsFound::items_are_list, crate::proofs::OutcomeValues::holds_what_it_meets, crate::proofs::Renumbering::commutes, crate::proofs::ProfileKept::stays_in_profile))]
 pub fn operations()
     ensures outcomes { (env : Outside) (s : Sight) (ch : Channels) (o : Operation) (vs : List Value) → Decides env s ch o vs }
     ensures reads { (env : Outside) (s t : Sight) (ch : Channels) (o : Operation) (vs : List Value) → ReadsOperands env s t ch o vs }

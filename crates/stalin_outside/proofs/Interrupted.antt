@@ -13,17 +13,15 @@ keeps_then_keeps (Some bytes) None last kept keeps = absurd kept
 keeps_then_keeps (Some bytes) (Some more) None kept keeps = absurd keeps
 keeps_then_keeps (Some bytes) (Some more) (Some rest) kept keeps = keeps ∙ kept
 
-pub keeps_then_consumes :
-    (first then last : Option (List ℕ)) (bytes : List ℕ) → Keeps first then → Consumes then last bytes
-    → Consumes first last bytes
+pub keeps_then_consumes : (first then last : Option (List ℕ)) (bytes : List ℕ) → Keeps first then
+    → Consumes then last bytes → Consumes first last bytes
 keeps_then_consumes None then last bytes kept consumes = tt
 keeps_then_consumes (Some text) None last bytes kept consumes = absurd kept
 keeps_then_consumes (Some text) (Some more) None bytes kept consumes = absurd consumes
 keeps_then_consumes (Some text) (Some more) (Some rest) bytes kept consumes = cc
 
-pub keeps_then_appends :
-    (first then last : Option (List ℕ)) (bytes : List ℕ) → Keeps first then → Appends then last bytes
-    → Appends first last bytes
+pub keeps_then_appends : (first then last : Option (List ℕ)) (bytes : List ℕ) → Keeps first then
+    → Appends then last bytes → Appends first last bytes
 keeps_then_appends None then last bytes kept appends = tt
 keeps_then_appends (Some text) None last bytes kept appends = absurd kept
 keeps_then_appends (Some text) (Some more) None bytes kept appends = absurd appends

@@ -23,6 +23,30 @@ gains_more : (byte : ℕ) (more : List ℕ) (before between now : Option (List �
 gains_more byte more before between now first one =
     one ∙ (ap (option_map (λ bytes. bytes ++ byte ∷ [])) first ∙ gains_both more (byte ∷ []) before)
 
+-- one answer more on channels 0 and 1, and none on channel 2
+told_out : (answer : Answer) (earlier : List Call) (before between now : Told) → Shows earlier before between
+    → Adds answer between.answers now.answers → now.err_answers ≡ between.err_answers → now.errors ≡ between.errors
+    → AddsAll (answer ∷ map answer_of_event (events_in earlier)) before.answers now.answers
+    × AddsAll (sent_answers earlier) before.err_answers now.err_answers
+    × (now.errors ≡ option_map (λ bytes. bytes ++ errors_in earlier) before.errors)
+told_out answer earlier before between now first one err_answers errors = (
+  adds_more answer (map answer_of_event (events_in earlier)) before.answers between.answers now.answers first.answers one,
+  subst (AddsAll (sent_answers earlier) before.err_answers) (sym err_answers) first.err_answers,
+  errors ∙ first.errors,
+)
+
+-- one answer more on channel 2, and none on channels 0 and 1
+told_err : (answer : Answer) (earlier : List Call) (before between now : Told) → Shows earlier before between
+    → Adds answer between.err_answers now.err_answers → now.answers ≡ between.answers → now.output ≡ between.output
+    → AddsAll (answer ∷ sent_answers earlier) before.err_answers now.err_answers
+    × AddsAll (map answer_of_event (events_in earlier)) before.answers now.answers
+    × (now.output ≡ option_map (λ bytes. bytes ++ written (events_in earlier)) before.output)
+told_err answer earlier before between now first one answers output = (
+  adds_more answer (sent_answers earlier) before.err_answers between.err_answers now.err_answers first.err_answers one,
+  subst (AddsAll (map answer_of_event (events_in earlier)) before.answers) (sym answers) first.answers,
+  output ∙ first.output,
+)
+
 pub shows : (made : List Call) (before now : Told) → Passes made before now → Shows made before now
 shows [] before now passes =
     subst (Shows [] before) (sym passes)
@@ -33,75 +57,42 @@ shows [] before now passes =
       errors = gains_nothing before.errors;
     })
 shows (Read (inputs.Byte byte) ∷ earlier) before now passes =
-    let between = passes.0 in
-    let first = shows earlier before between passes.1 in
+    let first = shows earlier before passes.0 passes.1 in
     let one = passes.2.1 in
     let small : byte ≡ byte % 256 = omega (arith, passes.2.0) in
-    record {
-      answers =
-          subst (λ b. AddsAll (answers.Byte b ∷ map answer_of_event (events_in earlier)) before.answers now.answers) small
-          (adds_more (answers.Byte byte) (map answer_of_event (events_in earlier)) before.answers between.answers now.answers first.answers one.answers);
-      err_answers = subst (AddsAll (sent_answers earlier) before.err_answers) (sym one.err_answers) first.err_answers;
-      output = one.output ∙ first.output;
-      errors = one.errors ∙ first.errors;
-    }
+    let out = told_out (answers.Byte byte) earlier before passes.0 now first one.answers one.err_answers one.errors in
+    let All : ℕ → Type 0 =
+    λ b. AddsAll (answers.Byte b ∷ map answer_of_event (events_in earlier)) before.answers now.answers in
+    record { answers = subst All small out.0; err_answers = out.1; output = one.output ∙ first.output; errors = out.2 }
 shows (Read inputs.End ∷ earlier) before now passes =
-    let between = passes.0 in
-    let first = shows earlier before between passes.1 in
+    let first = shows earlier before passes.0 passes.1 in
     let one = passes.2.1 in
-    record {
-      answers = adds_more answers.End (map answer_of_event (events_in earlier)) before.answers between.answers now.answers first.answers one.answers;
-      err_answers = subst (AddsAll (sent_answers earlier) before.err_answers) (sym one.err_answers) first.err_answers;
-      output = one.output ∙ first.output;
-      errors = one.errors ∙ first.errors;
-    }
+    let out = told_out answers.End earlier before passes.0 now first one.answers one.err_answers one.errors in
+    record { answers = out.0; err_answers = out.1; output = one.output ∙ first.output; errors = out.2 }
 shows (Read inputs.Failed ∷ earlier) before now passes =
-    let between = passes.0 in
-    let first = shows earlier before between passes.1 in
+    let first = shows earlier before passes.0 passes.1 in
     let one = passes.2.1 in
-    record {
-      answers = adds_more answers.Failed (map answer_of_event (events_in earlier)) before.answers between.answers now.answers first.answers one.answers;
-      err_answers = subst (AddsAll (sent_answers earlier) before.err_answers) (sym one.err_answers) first.err_answers;
-      output = one.output ∙ first.output;
-      errors = one.errors ∙ first.errors;
-    }
+    let out = told_out answers.Failed earlier before passes.0 now first one.answers one.err_answers one.errors in
+    record { answers = out.0; err_answers = out.1; output = one.output ∙ first.output; errors = out.2 }
 shows (Write byte writes.Took ∷ earlier) before now passes =
-    let between = passes.0 in
-    let first = shows earlier before between passes.1 in
+    let first = shows earlier before passes.0 passes.1 in
     let one = passes.2 in
-    record {
-      answers = adds_more (answers.Took byte) (map answer_of_event (events_in earlier)) before.answers between.answers now.answers first.answers one.answers;
-      err_answers = subst (AddsAll (sent_answers earlier) before.err_answers) (sym one.err_answers) first.err_answers;
-      output = gains_more byte (written (events_in earlier)) before.output between.output now.output first.output one.output;
-      errors = one.errors ∙ first.errors;
-    }
+    let out = told_out (answers.Took byte) earlier before passes.0 now first one.answers one.err_answers one.errors in
+    let bytes = gains_more byte (written (events_in earlier)) before.output passes.0.output now.output first.output one.output in
+    record { answers = out.0; err_answers = out.1; output = bytes; errors = out.2 }
 shows (Write byte writes.Failed ∷ earlier) before now passes =
-    let between = passes.0 in
-    let first = shows earlier before between passes.1 in
+    let first = shows earlier before passes.0 passes.1 in
     let one = passes.2 in
-    record {
-      answers = adds_more answers.Failed (map answer_of_event (events_in earlier)) before.answers between.answers now.answers first.answers one.answers;
-      err_answers = subst (AddsAll (sent_answers earlier) before.err_answers) (sym one.err_answers) first.err_answers;
-      output = one.output ∙ first.output;
-      errors = one.errors ∙ first.errors;
-    }
+    let out = told_out answers.Failed earlier before passes.0 now first one.answers one.err_answers one.errors in
+    record { answers = out.0; err_answers = out.1; output = one.output ∙ first.output; errors = out.2 }
 shows (Send byte writes.Took ∷ earlier) before now passes =
-    let between = passes.0 in
-    let first = shows earlier before between passes.1 in
+    let first = shows earlier before passes.0 passes.1 in
     let one = passes.2 in
-    record {
-      answers = subst (AddsAll (map answer_of_event (events_in earlier)) before.answers) (sym one.answers) first.answers;
-      err_answers = adds_more (answers.Took byte) (sent_answers earlier) before.err_answers between.err_answers now.err_answers first.err_answers one.err_answers;
-      output = one.output ∙ first.output;
-      errors = gains_more byte (errors_in earlier) before.errors between.errors now.errors first.errors one.errors;
-    }
+    let err = told_err (answers.Took byte) earlier before passes.0 now first one.err_answers one.answers one.output in
+    let bytes = gains_more byte (errors_in earlier) before.errors passes.0.errors now.errors first.errors one.errors in
+    record { answers = err.1; err_answers = err.0; output = err.2; errors = bytes }
 shows (Send byte writes.Failed ∷ earlier) before now passes =
-    let between = passes.0 in
-    let first = shows earlier before between passes.1 in
+    let first = shows earlier before passes.0 passes.1 in
     let one = passes.2 in
-    record {
-      answers = subst (AddsAll (map answer_of_event (events_in earlier)) before.answers) (sym one.answers) first.answers;
-      err_answers = adds_more answers.Failed (sent_answers earlier) before.err_answers between.err_answers now.err_answers first.err_answers one.err_answers;
-      output = one.output ∙ first.output;
-      errors = one.errors ∙ first.errors;
-    }
+    let err = told_err answers.Failed earlier before passes.0 now first one.err_answers one.answers one.output in
+    record { answers = err.1; err_answers = err.0; output = err.2; errors = one.errors ∙ first.errors }

@@ -75,94 +75,69 @@ earlier_items : (items : List (Option ℕ)) (item : Option ℕ) (rest whole : Li
     → whole ≡ items ++ item ∷ rest
 earlier_items items item rest whole is = is ∙ append_assoc items (item ∷ []) rest
 
+-- the same, part by part
+had : (env : Env) (made : List Call) (rest : List (Option ℕ)) → env.input ≡ items_in made ++ rest
+    → ((k : ℕ) → k ≤ length (events_in made) → lists env.failing k ≡ lists (failing_in (events_in made)) k)
+    → ((k : ℕ) → k ≤ length (sent_in made) → lists env.err_failing k ≡ lists (err_failing_in made) k) → Has env made rest
+had env made rest input failing err_failing = record { input = input; failing = failing; err_failing = err_failing }
+
 goes : (env : Env) (made : List Call) (rest : List (Option ℕ)) → Has env made rest → Goes env made rest
 goes env [] rest has = record { gives = tt; left = ap (λ input. record { input = input; trace = []; sent = [] }) has.input }
 goes env (Read (inputs.Byte byte) ∷ earlier) rest has =
-    let before : Has env earlier (Some byte ∷ rest) = record {
-      input = earlier_items (items_in earlier) (Some byte) rest env.input has.input;
-      failing = λ k low. has.failing k (omega arith);
-      err_failing = has.err_failing;
-    } in
+    let before =
+    had env earlier (Some byte ∷ rest) (earlier_items (items_in earlier) (Some byte) rest env.input has.input)
+    (λ k low. has.failing k (omega arith)) has.err_failing in
     let first = goes env earlier (Some byte ∷ rest) before in
     let next : lists env.failing (length (events_in earlier) + 1) ≡ false =
-    has.failing (length (events_in earlier) + 1) (omega arith) ∙ not_listed (events_in earlier) (length (events_in earlier) + 1) (omega arith)
-    in
+    has.failing (length (events_in earlier) + 1) (omega arith) ∙ not_listed (events_in earlier) (length (events_in earlier) + 1) (omega arith) in
     one_more env (Read (inputs.Byte byte)) earlier (Some byte ∷ rest) rest first
     (ap (λ b. read_event b (Some byte ∷ rest)) next)
     (ap (λ b. record { input = items_after b (Some byte ∷ rest); trace = read_event b (Some byte ∷ rest) ∷ events_in earlier; sent = sent_in earlier }) next)
 goes env (Read inputs.End ∷ earlier) rest has =
-    let before : Has env earlier (None ∷ rest) = record {
-      input = earlier_items (items_in earlier) None rest env.input has.input;
-      failing = λ k low. has.failing k (omega arith);
-      err_failing = has.err_failing;
-    } in
+    let before =
+    had env earlier (None ∷ rest) (earlier_items (items_in earlier) None rest env.input has.input)
+    (λ k low. has.failing k (omega arith)) has.err_failing in
     let first = goes env earlier (None ∷ rest) before in
     let next : lists env.failing (length (events_in earlier) + 1) ≡ false =
-    has.failing (length (events_in earlier) + 1) (omega arith) ∙ not_listed (events_in earlier) (length (events_in earlier) + 1) (omega arith)
-    in
+    has.failing (length (events_in earlier) + 1) (omega arith) ∙ not_listed (events_in earlier) (length (events_in earlier) + 1) (omega arith) in
     one_more env (Read inputs.End) earlier (None ∷ rest) rest first
     (ap (λ b. read_event b (None ∷ rest)) next)
     (ap (λ b. record { input = items_after b (None ∷ rest); trace = read_event b (None ∷ rest) ∷ events_in earlier; sent = sent_in earlier }) next)
 goes env (Read inputs.Failed ∷ earlier) rest has =
-    let before : Has env earlier rest = record {
-      input = has.input;
-      failing = λ k low. has.failing k (omega arith) ∙ grind arith;
-      err_failing = has.err_failing;
-    } in
+    let before = had env earlier rest has.input (λ k low. has.failing k (omega arith) ∙ grind arith) has.err_failing in
     let first = goes env earlier rest before in
     let next : lists env.failing (length (events_in earlier) + 1) ≡ true =
-    has.failing (length (events_in earlier) + 1) (omega arith) ∙ grind arith
-    in
+    has.failing (length (events_in earlier) + 1) (omega arith) ∙ grind arith in
     one_more env (Read inputs.Failed) earlier rest rest first
     (ap (λ b. read_event b rest) next)
     (ap (λ b. record { input = items_after b rest; trace = read_event b rest ∷ events_in earlier; sent = sent_in earlier }) next)
 goes env (Write byte writes.Took ∷ earlier) rest has =
-    let before : Has env earlier rest = record {
-      input = has.input;
-      failing = λ k low. has.failing k (omega arith);
-      err_failing = has.err_failing;
-    } in
+    let before = had env earlier rest has.input (λ k low. has.failing k (omega arith)) has.err_failing in
     let first = goes env earlier rest before in
     let next : lists env.failing (length (events_in earlier) + 1) ≡ false =
-    has.failing (length (events_in earlier) + 1) (omega arith) ∙ not_listed (events_in earlier) (length (events_in earlier) + 1) (omega arith)
-    in
+    has.failing (length (events_in earlier) + 1) (omega arith) ∙ not_listed (events_in earlier) (length (events_in earlier) + 1) (omega arith) in
     one_more env (Write byte writes.Took) earlier rest rest first
     (ap (λ b. write_event b byte) next)
     (ap (λ b. record { input = rest; trace = write_event b byte ∷ events_in earlier; sent = sent_in earlier }) next)
 goes env (Write byte writes.Failed ∷ earlier) rest has =
-    let before : Has env earlier rest = record {
-      input = has.input;
-      failing = λ k low. has.failing k (omega arith) ∙ grind arith;
-      err_failing = has.err_failing;
-    } in
+    let before = had env earlier rest has.input (λ k low. has.failing k (omega arith) ∙ grind arith) has.err_failing in
     let first = goes env earlier rest before in
     let next : lists env.failing (length (events_in earlier) + 1) ≡ true =
-    has.failing (length (events_in earlier) + 1) (omega arith) ∙ grind arith
-    in
+    has.failing (length (events_in earlier) + 1) (omega arith) ∙ grind arith in
     one_more env (Write byte writes.Failed) earlier rest rest first
     (ap (λ b. write_event b byte) next)
     (ap (λ b. record { input = rest; trace = write_event b byte ∷ events_in earlier; sent = sent_in earlier }) next)
 goes env (Send byte writes.Took ∷ earlier) rest has =
-    let before : Has env earlier rest = record {
-      input = has.input;
-      failing = has.failing;
-      err_failing = λ k low. has.err_failing k (omega arith);
-    } in
+    let before = had env earlier rest has.input has.failing (λ k low. has.err_failing k (omega arith)) in
     let first = goes env earlier rest before in
     let next : lists env.err_failing (length (sent_in earlier) + 1) ≡ false =
-    has.err_failing (length (sent_in earlier) + 1) (omega arith) ∙ err_not_listed earlier (length (sent_in earlier) + 1) (omega arith)
-    in
+    has.err_failing (length (sent_in earlier) + 1) (omega arith) ∙ err_not_listed earlier (length (sent_in earlier) + 1) (omega arith) in
     one_more env (Send byte writes.Took) earlier rest rest first (ap (λ b. write_event b byte) next) refl
 goes env (Send byte writes.Failed ∷ earlier) rest has =
-    let before : Has env earlier rest = record {
-      input = has.input;
-      failing = has.failing;
-      err_failing = λ k low. has.err_failing k (omega arith) ∙ grind arith;
-    } in
+    let before = had env earlier rest has.input has.failing (λ k low. has.err_failing k (omega arith) ∙ grind arith) in
     let first = goes env earlier rest before in
     let next : lists env.err_failing (length (sent_in earlier) + 1) ≡ true =
-    has.err_failing (length (sent_in earlier) + 1) (omega arith) ∙ grind arith
-    in
+    has.err_failing (length (sent_in earlier) + 1) (omega arith) ∙ grind arith in
     one_more env (Send byte writes.Failed) earlier rest rest first (ap (λ b. write_event b byte) next) refl
 
 append_nothing : (items : List (Option ℕ)) → items ≡ items ++ []

@@ -93,27 +93,24 @@ gains_cut parts i d before between now within one other =
 
 -- Texts to the errors
 
-pub sends_cut : (parts : List (Bor (List ℕ))) (i : ℕ) (d : Bor (List ℕ)) (before between now : Told) → i < length parts
-    → Sends (joined (take i parts)) true before between → Sends (get_or parts i d).now false between now
-    → Sends (joined parts) false before now
+-- where a part is cut off, so is the text of all
+abbrev Cuts : (List ℕ → Bool → Told → Told → Type 0) → Type 0
+Cuts Adds =
+    (parts : List (Bor (List ℕ))) (i : ℕ) (d : Bor (List ℕ)) (before between now : Told) → i < length parts
+    → Adds (joined (take i parts)) true before between → Adds (get_or parts i d).now false between now
+    → Adds (joined parts) false before now
+
+pub sends_cut : Cuts Sends
 sends_cut parts i d before between now within one other =
-    record {
-      sent = gains_cut parts i d (errors_of before) (errors_of between) (errors_of now) within one.sent other.sent;
-      input = other.input ∙ one.input;
-      output = other.output ∙ one.output;
-    }
+    let cut = gains_cut parts i d (errors_of before) (errors_of between) (errors_of now) within one.sent other.sent in
+    record { sent = cut; input = other.input ∙ one.input; output = other.output ∙ one.output }
 
 -- Texts to the output
 
-pub prints_cut : (parts : List (Bor (List ℕ))) (i : ℕ) (d : Bor (List ℕ)) (before between now : Told) → i < length parts
-    → Prints (joined (take i parts)) true before between → Prints (get_or parts i d).now false between now
-    → Prints (joined parts) false before now
+pub prints_cut : Cuts Prints
 prints_cut parts i d before between now within one other =
-    record {
-      printed = gains_cut parts i d (output_of before) (output_of between) (output_of now) within one.printed other.printed;
-      input = other.input ∙ one.input;
-      errors = other.errors ∙ one.errors;
-    }
+    let cut = gains_cut parts i d (output_of before) (output_of between) (output_of now) within one.printed other.printed in
+    record { printed = cut; input = other.input ∙ one.input; errors = other.errors ∙ one.errors }
 
 pub prints_then : (text more : List ℕ) (whole : Bool) (before between now : Told) → Prints text true before between
     → Prints more whole between now → Prints (text ++ more) whole before now

@@ -4,7 +4,7 @@ use Rattle.stalin_outside.specs.Shelf.{Files}
 use Rattle.image_build.specs.declared.error.BuildErr.{BuildErr}
 use Rattle.image_build.specs.declared.error.BuildErr.TheVariants as build
 use Rattle.stalin_top.specs.declared.answer.Answer.{Answer}
-use Rattle.stalin_top.specs.declared.answer.Answer.TheVariants.{Done, Usage, Refused, TooLarge, FileFault, ConsoleFault, BadImage, Spent, Trapped, Image, NoMemory}
+use Rattle.stalin_top.specs.declared.answer.Answer.TheVariants.{Refused, TooLarge, FileFault, NoMemory}
 use Rattle.stalin_top.specs.declared.answer.Refusal.TheVariants as refusals
 use Rattle.stalin_top.specs.Answer.{Yields}
 use Rattle.stalin_top.specs.Source.{IsSource, IsUnread, Refusals, StopsBy, answer_to, source_limit}
@@ -22,14 +22,7 @@ pub unread : (Refuses : Refusals) (files : Option Files) (source : List ℕ) (an
 unread Refuses files source (TooLarge limit) long = inl long
 unread Refuses files source FileFault failed = tt
 unread Refuses files source NoMemory wanting = tt
-unread Refuses files source Done stops = absurd stops
-unread Refuses files source (Usage word) stops = absurd stops
-unread Refuses files source (Refused refusal) stops = absurd stops
-unread Refuses files source ConsoleFault stops = absurd stops
-unread Refuses files source (BadImage err) stops = absurd stops
-unread Refuses files source (Spent steps) stops = absurd stops
-unread Refuses files source (Trapped kind pc) stops = absurd stops
-unread Refuses files source (Image status) stops = absurd stops
+unread Refuses files source answer stops = absurd stops
 
 -- the answer to a source that is refused has its cause
 pub stops_by : (Refuses : Refusals) (files : Option Files) (source text : List ℕ) (error : BuildErr) (answer : Answer)
@@ -67,13 +60,7 @@ stop_complete Refuses files source text (TooLarge limit) (inr stops) there none 
     absurd (no_reason Refuses files source text stops.text (build.Limit limit) (λ is. cc) there stops.held stops.refuses none)
 stop_complete Refuses files source text FileFault stops there none = inl refl
 stop_complete Refuses files source text NoMemory stops there none = inr refl
-stop_complete Refuses files source text Done stops there none = absurd stops
-stop_complete Refuses files source text (Usage word) stops there none = absurd stops
-stop_complete Refuses files source text (BadImage err) stops there none = absurd stops
-stop_complete Refuses files source text (Spent steps) stops there none = absurd stops
-stop_complete Refuses files source text (Trapped kind pc) stops there none = absurd stops
-stop_complete Refuses files source text (Image status) stops there none = absurd stops
-stop_complete Refuses files source text ConsoleFault stops there none = absurd stops
+stop_complete Refuses files source text answer stops there none = absurd stops
 
 pub no_long : (files : Files) (source text long : List ℕ) → IsSource (Some files) source text → files source ≡ Some long
     → 2 ^ 20 < length long → ⊥
@@ -90,10 +77,4 @@ stop_limited Refuses files source long (TooLarge limit) (inr stops) held more =
     absurd (no_long files source stops.text long stops.held held more)
 stop_limited Refuses files source long FileFault stops held more = inr (inl refl)
 stop_limited Refuses files source long NoMemory stops held more = inr (inr refl)
-stop_limited Refuses files source long Done stops held more = absurd stops
-stop_limited Refuses files source long (Usage word) stops held more = absurd stops
-stop_limited Refuses files source long (BadImage err) stops held more = absurd stops
-stop_limited Refuses files source long (Spent steps) stops held more = absurd stops
-stop_limited Refuses files source long (Trapped kind pc) stops held more = absurd stops
-stop_limited Refuses files source long (Image status) stops held more = absurd stops
-stop_limited Refuses files source long ConsoleFault stops held more = absurd stops
+stop_limited Refuses files source long answer stops held more = absurd stops

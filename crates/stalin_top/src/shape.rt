@@ -92,36 +92,26 @@ impl Verb {
         ensures { result ≡ (shape_of self).options }
     {
         match self {
-            Verb::Compile => Options {
-                workers: true,
-                heap: true,
-                steps: false,
-            },
-            Verb::Run => Options {
-                workers: true,
-                heap: true,
-                steps: true,
-            },
-            Verb::Emulate => Options {
-                workers: false,
-                heap: false,
-                steps: true,
-            },
-            Verb::Facts => Options {
-                workers: true,
-                heap: false,
-                steps: false,
-            },
-            Verb::Make => Options {
-                workers: true,
-                heap: true,
-                steps: false,
-            },
+            Verb::Compile => Options::of(true, true, false),
+            Verb::Run => Options::of(true, true, true),
+            Verb::Emulate => Options::of(false, false, true),
+            Verb::Facts => Options::of(true, false, false),
+            Verb::Make => Options::of(true, true, false),
         }
     }
 }
 
 impl Options {
+    fn of(workers: bool, heap: bool, steps: bool) -> Options
+        ensures { result ≡ record { workers = workers; heap = heap; steps = steps } }
+    {
+        Options {
+            workers,
+            heap,
+            steps,
+        }
+    }
+
     pub fn takes(self, setting: Setting) -> bool
         ensures { result ≡ takes self setting }
     {

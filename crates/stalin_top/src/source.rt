@@ -24,6 +24,7 @@ const LIMIT: Limit = Limit {
 };
 
 /// The image file of the program in the file `source`, or the answer to one that has none.
+#[tactic(auto, using(crate::proofs::Stops::unread))]
 pub(crate) fn build_source<R: AllocGlobal + Threads + Sync, H: Shelf, G: Gate>(
     rt: &R,
     alloc: Global,
@@ -52,6 +53,7 @@ pub(crate) fn build_source<R: AllocGlobal + Threads + Sync, H: Shelf, G: Gate>(
 }
 
 /// The analysis of the program in the file `source`, or the answer to one that has none.
+#[tactic(auto, using(crate::proofs::Stops::unread))]
 pub(crate) fn analyse_source<R: AllocGlobal + Threads + Sync, H: Shelf, G: Gate>(
     rt: &R,
     alloc: Global,

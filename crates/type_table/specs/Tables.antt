@@ -1,4 +1,5 @@
 -- What contracts see of a table, of its passes, and of what it leaves when it is closed.
+pub use Rattle.std.specs.Coded.{codes}
 use Rattle.std.specs.Prelude.{ℕ, List, [], Option, Some, None, true, ◌≡◌, ◌+◌, ◌↔◌, length, replicate}
 use Rattle.atomic_table.specs.Seated.{TableId}
 use Rattle.atomic_table.specs.Table.{Me}

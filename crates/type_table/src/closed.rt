@@ -18,9 +18,8 @@ pub struct Closed {
 }
 
 impl Model for Closed {
-    ghost use Rattle.type_table.specs.Tables.{Answer, IsAnswer};
+    ghost use Rattle.type_table.specs.Tables.{Answer, IsAnswer, codes};
     ghost use Rattle.flow_form.specs.contracts.constraints.Constraints as system;
-    ghost use Rattle.std.specs.Coded.{codes};
 
     ghost Value = { Answer };
 

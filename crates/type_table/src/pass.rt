@@ -18,9 +18,8 @@ pub struct Pass {
 }
 
 impl Model for Pass {
-    ghost use Rattle.type_table.specs.Tables.{Held, IsHeld};
+    ghost use Rattle.type_table.specs.Tables.{Held, IsHeld, codes};
     ghost use Rattle.type_table.specs.contracts.shared_words.View as seen;
-    ghost use Rattle.std.specs.Coded.{codes};
 
     ghost Value = { Held };
 

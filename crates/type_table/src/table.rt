@@ -31,9 +31,8 @@ pub struct TypeTable {
 }
 
 impl Model for TypeTable {
-    ghost use Rattle.type_table.specs.Tables.{IsOpen, Opened};
+    ghost use Rattle.type_table.specs.Tables.{IsOpen, Opened, codes};
     ghost use Rattle.flow_form.specs.contracts.constraints.Constraints as system;
-    ghost use Rattle.std.specs.Coded.{codes};
 
     ghost Value = { Opened };
 

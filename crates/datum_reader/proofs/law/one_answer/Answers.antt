@@ -1,11 +1,8 @@
-use Rattle.datum_reader.proofs.OneAnswer.{same_data, same_fault, data_or_fault, some_answer}
+use Rattle.datum_reader.proofs.OneAnswer.{same_data, data_or_fault, some_answer}
 use Rattle.datum_reader.proofs.law.one_answer.Goals as goal
 
 pub returns-clause-same_data : goal.returns-clause-same_data
 returns-clause-same_data c = same_data
-
-pub returns-clause-same_fault : goal.returns-clause-same_fault
-returns-clause-same_fault c = same_fault
 
 pub returns-clause-apart : goal.returns-clause-apart
 returns-clause-apart c = data_or_fault

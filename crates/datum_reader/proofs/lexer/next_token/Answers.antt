@@ -9,11 +9,10 @@ use Rattle.datum_reader.proofs.lexer.next_token.Goals as goal
 pub loop-spot-smaller : goal.loop-spot-smaller
 loop-spot-smaller c =
     let rest = c.loop-spot.spot.rest.now in
-    let p = c.loop-spot.spot.pos in
     let n = c.in-Blank.count in
     let there : 0 < length rest = search rules in
-    let is : piece p rest ≡ Blank n = sym c.in_ok-count.ensures.value ∙ c.in-Blank.is in
-    let some : 0 < n = piece_length_some p rest (Blank n) there is in
+    let some : 0 < n =
+    piece_length_some c.loop-spot.spot.pos rest (Blank n) there (sym c.in_ok-count.ensures.value ∙ c.in-Blank.is) in
     let shorter : length c.past-spot.result.rest.now < length rest =
     omega (arith, ap length c.past-spot.ensures.rest, length-drop n rest, some, there) in
     shorter
@@ -59,12 +58,11 @@ returns-in-Found-clause-value c =
 pub returns-in-Found-clause-shorter : goal.returns-in-Found-clause-shorter
 returns-in-Found-clause-shorter c =
     let rest = c.loop-spot.spot.rest.now in
-    let p = c.loop-spot.spot.pos in
     let n = c.in-Found.count in
-    let t = c.in-Found.token in
     let there : 0 < length rest = search rules in
-    let is : piece p rest ≡ Found t n = sym c.in_ok-count.ensures.value ∙ c.in-Found.is in
-    let some : 0 < n = piece_length_some p rest (Found t n) there is in
+    let some : 0 < n =
+    piece_length_some c.loop-spot.spot.pos rest (Found c.in-Found.token n) there
+    (sym c.in_ok-count.ensures.value ∙ c.in-Found.is) in
     record {
       shorter =
           omega (

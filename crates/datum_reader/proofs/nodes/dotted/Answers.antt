@@ -1,8 +1,7 @@
-use Rattle.std.proofs.Common.{refl, Some, length, get_or, ◌≡◌, ◌++◌, ◌∷◌, [], sym, ap, ◌∙◌}
+use Rattle.std.proofs.Common.{Some, get_or, ◌≡◌, ◌++◌, ◌∷◌, [], sym, ap, ◌∙◌}
 use Rattle.std.specs.Prelude.{slice_get}
-use Rattle.std.proofs.lemmas.Option.{slice_get_read}
 use Rattle.datum_form.specs.declared.datums.Kind.TheVariants as kind
-use Rattle.datum_reader.proofs.AddedNodeStands.{node, same_kind, joins, stays_dotted}
+use Rattle.datum_reader.proofs.AddedNodeStands.{node, node_at, same_kind, joins, stays_dotted}
 use Rattle.datum_reader.proofs.nodes.dotted.Goals as goal
 
 pub returns-in_ok-id-in-List : goal.returns-in_ok-id-in-List
@@ -15,9 +14,8 @@ returns-in_ok-id-in-List c = λ is d h k.
     let read = c.index-table-tail.result in
     let there = get_or c.as_slice-table.result.now c.args.tail read in
     let at_tail : slice_get c.args.nodes.now c.args.tail ≡ Some there =
-    slice_get_read c.args.nodes.now (length c.args.nodes.now) c.args.tail read refl c.requires
-    (c.index-table-tail.is ∙ ap (λ ns. get_or ns c.args.tail read) c.as_slice-table.ensures)
-    ∙ ap Some c.index-table-tail.is in
+    node_at c.args.nodes.now c.as_slice-table.result.now c.args.tail read c.requires c.index-table-tail.is
+    c.as_slice-table.ensures in
     let all = c.in_ok-extend_from_slice-in-List.ensures.ok ∙ ap (λ l. c.args.items ++ l) c.as_slice.ensures in
     let at : slice_get nodes c.args.tail ≡ node (kind.List more end) there.pos =
     at_tail ∙ ap (λ l. node l there.pos) c.in-List.is in
@@ -30,9 +28,8 @@ returns-in_ok-id-in_default c = λ is d h k.
     let read = c.index-table-tail.result in
     let there = get_or c.as_slice-table.result.now c.args.tail read in
     let at_tail : slice_get c.args.nodes.now c.args.tail ≡ Some there =
-    slice_get_read c.args.nodes.now (length c.args.nodes.now) c.args.tail read refl c.requires
-    (c.index-table-tail.is ∙ ap (λ ns. get_or ns c.args.tail read) c.as_slice-table.ensures)
-    ∙ ap Some c.index-table-tail.is in
+    node_at c.args.nodes.now c.as_slice-table.result.now c.args.tail read c.requires c.index-table-tail.is
+    c.as_slice-table.ensures in
     stays_dotted c.args.nodes.now c.add-in_default.new.nodes c.in_ok-id-in_default.id c.args.tail c.args.items
     is d c.args.pos c.in_ok-id-in_default.ensures.number c.in_ok-id-in_default.ensures.added
     (λ more end q e.

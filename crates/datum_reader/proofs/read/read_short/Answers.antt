@@ -1,16 +1,16 @@
-use Rattle.std.proofs.Common.{[], refl, sym, subst, arith}
-use Rattle.scheme_base.specs.declared.pos.Pos.{Pos}
+use Rattle.std.proofs.Common.{[], refl, subst, arith}
 use Rattle.datum_form.specs.Syntax.{place_of}
 use Rattle.datum_form.specs.Text.{lexed}
 use Rattle.datum_form.specs.Text.Ending.{BadAt, RangeAt, OpenAt}
 use Rattle.datum_reader.specs.declared.error.ReadErr.TheVariants.{Unclosed, Stray, BadToken, NumberRange, TooDeep}
 use Rattle.datum_reader.specs.declared.lexer.Next.{Next}
 use Rattle.datum_reader.specs.declared.reading.Taken.{Taken}
-use Rattle.datum_reader.specs.Lexing.{Scans, Shorter, ends}
+use Rattle.datum_reader.specs.Lexing.{Scans, Shorter}
 use Rattle.datum_reader.specs.Machine.{step}
+use Rattle.datum_reader.specs.Machine.Run.{Stray as StrayRun, Deep as DeepRun}
 use Rattle.datum_reader.specs.Reading.{Follows}
-use Rattle.datum_reader.specs.Answer.{max_depth, ReadFault}
-use Rattle.datum_reader.proofs.AnswerFollows.{fault_read, told_then, goes_on, stray_read, deep_read, all_read}
+use Rattle.datum_reader.specs.Answer.{max_depth}
+use Rattle.datum_reader.proofs.AnswerFollows.{goes_on, stop_read, refused_read, all_read}
 use Rattle.datum_reader.proofs.read.read_short.Goals as goal
 
 pub loop-next-init : goal.loop-next-init
@@ -42,30 +42,18 @@ returns-in-End c =
 
 pub returns-in-BadToken : goal.returns-in-BadToken
 returns-in-BadToken c =
-    let p = c.loop-next.invariant.pending in
-    let spot = c.loop-next.spot in
-    let P : Next → Type 0 = λ x. Scans spot x in
-    let e = subst P c.in-BadToken.is c.in-Ok.ensures.value in
-    fault_read c.args.text.now (BadToken c.in-BadToken.pos) c.requires
-    (told_then (lexed c.args.text.now) (ends (BadAt c.in-BadToken.pos)) c.loop-next.reading spot p e)
+    stop_read c.args.text.now c.loop-next.reading c.loop-next.spot (BadAt c.in-BadToken.pos) (BadToken c.in-BadToken.pos)
+    c.loop-next.invariant.pending c.requires c.in-Ok.ensures.value c.in-BadToken.is (λ h. h) refl
 
 pub returns-in-BadNumber : goal.returns-in-BadNumber
 returns-in-BadNumber c =
-    let p = c.loop-next.invariant.pending in
-    let spot = c.loop-next.spot in
-    let P : Next → Type 0 = λ x. Scans spot x in
-    let e = subst P c.in-BadNumber.is c.in-Ok.ensures.value in
-    fault_read c.args.text.now (NumberRange c.in-BadNumber.pos) c.requires
-    (told_then (lexed c.args.text.now) (ends (RangeAt c.in-BadNumber.pos)) c.loop-next.reading spot p e)
+    stop_read c.args.text.now c.loop-next.reading c.loop-next.spot (RangeAt c.in-BadNumber.pos) (NumberRange c.in-BadNumber.pos)
+    c.loop-next.invariant.pending c.requires c.in-Ok.ensures.value c.in-BadNumber.is (λ h. h) refl
 
 pub returns-in-OpenString : goal.returns-in-OpenString
 returns-in-OpenString c =
-    let p = c.loop-next.invariant.pending in
-    let spot = c.loop-next.spot in
-    let P : Next → Type 0 = λ x. Scans spot x in
-    let e = subst P c.in-OpenString.is c.in-Ok.ensures.value in
-    fault_read c.args.text.now (Unclosed c.in-OpenString.pos) c.requires
-    (told_then (lexed c.args.text.now) (ends (OpenAt c.in-OpenString.pos)) c.loop-next.reading spot p e)
+    stop_read c.args.text.now c.loop-next.reading c.loop-next.spot (OpenAt c.in-OpenString.pos) (Unclosed c.in-OpenString.pos)
+    c.loop-next.invariant.pending c.requires c.in-Ok.ensures.value c.in-OpenString.is (λ h. h) refl
 
 pub loop-next-smaller : goal.loop-next-smaller
 loop-next-smaller c =
@@ -95,31 +83,15 @@ loop-next-preserved c =
 
 pub returns-in-Stray : goal.returns-in-Stray
 returns-in-Stray c =
-    let p = c.loop-next.invariant.pending in
-    let spot = c.loop-next.spot in
-    let reading = c.loop-next.reading in
-    let pos = place_of c.in-Token.token in
-    let P : Next → Type 0 = λ x. Scans spot x in
-    let Q : Taken → Type 0 = λ x. Follows x c.take.new.self pos (step p.state.room p.state.frames p.state.trees c.in-Token.token) in
-    let e = subst P c.in-Token.is c.in-Ok.ensures.value in
-    let stops = subst Q c.in-Stray.is (c.in-Ok-take.ensures p.state.room p.state.frames p.state.trees p.state.holds) in
-    let R : Pos → Type 0 = λ q. ReadFault c.args.text.now (Stray q) in
-    subst R (sym c.pos-pos.ensures)
-    (stray_read c.args.text.now reading spot c.in-Token.after c.in-Token.token pos p c.requires e stops)
+    refused_read c.args.text.now c.loop-next.reading c.take.new.self c.loop-next.spot c.in-Token.after c.in-Token.token
+    Stray StrayRun _ c.loop-next.invariant.pending c.requires c.in-Ok.ensures.value c.in-Token.is c.pos-pos.ensures
+    c.in-Stray.is c.in-Ok-take.ensures (λ r h. h) refl
 
 pub returns-in-Deep : goal.returns-in-Deep
 returns-in-Deep c =
-    let p = c.loop-next.invariant.pending in
-    let spot = c.loop-next.spot in
-    let reading = c.loop-next.reading in
-    let pos = place_of c.in-Token.token in
-    let P : Next → Type 0 = λ x. Scans spot x in
-    let Q : Taken → Type 0 = λ x. Follows x c.take.new.self pos (step p.state.room p.state.frames p.state.trees c.in-Token.token) in
-    let e = subst P c.in-Token.is c.in-Ok.ensures.value in
-    let stops = subst Q c.in-Deep.is (c.in-Ok-take.ensures p.state.room p.state.frames p.state.trees p.state.holds) in
-    let R : Pos → Type 0 = λ q. ReadFault c.args.text.now (TooDeep q) in
-    subst R (sym c.pos-pos.ensures)
-    (deep_read c.args.text.now reading spot c.in-Token.after c.in-Token.token pos p c.requires e stops)
+    refused_read c.args.text.now c.loop-next.reading c.take.new.self c.loop-next.spot c.in-Token.after c.in-Token.token
+    TooDeep DeepRun _ c.loop-next.invariant.pending c.requires c.in-Ok.ensures.value c.in-Token.is c.pos-pos.ensures
+    c.in-Deep.is c.in-Ok-take.ensures (λ r h. h) refl
 
 pub take-requires : goal.take-requires
 take-requires c = c.loop-next.invariant.pending.state

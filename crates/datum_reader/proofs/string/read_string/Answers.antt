@@ -22,15 +22,10 @@ returns-then-mark-eq34-clause-value c =
     let held : bytes ++ take (plain_length rest) rest ≡ c.extend_from_slice.new.self =
     ap (λ n. bytes ++ take n rest) (sym c.plain_length.ensures.value)
     ∙ (ap (λ l. bytes ++ l) (sym c.split_at.ensures.front) ∙ sym c.in_ok-extend_from_slice.ensures.ok) in
+    let cut = ap length c.in-Some.ensures.cases.0 in
+    let kept = c.loop-bytes.invariant.shorter in
     let count : read + plain_length rest + 1 ≡ length text - length after =
-    omega (
-      arith,
-      c.plain_length.ensures.value,
-      c.plain_length.ensures.within,
-      c.split_at.ensures.back_len,
-      ap length c.in-Some.ensures.cases.0,
-      c.loop-bytes.invariant.shorter,
-    ) in
+    omega (arith, c.plain_length.ensures.value, c.plain_length.ensures.within, c.split_at.ensures.back_len, cut, kept) in
     closed text bytes rest after bad read c.in-Some.mark.now c.loop-bytes.invariant.same
     (ap (λ n. drop n rest) (sym c.plain_length.ensures.value) ∙ (sym c.split_at.ensures.back ∙ c.in-Some.ensures.cases.0))
     c.if-mark-eq34.true
@@ -59,15 +54,18 @@ loop-bytes-preserved c =
     ap (λ n. bytes ++ take n rest) (sym c.plain_length.ensures.value)
     ∙ (ap (λ l. bytes ++ l) (sym c.split_at.ensures.front) ∙ sym c.in_ok-extend_from_slice.ensures.ok) in
     let all : front ++ escaped ∷ [] ≡ c.push.new.self = ap (λ l. l ++ escaped ∷ []) held ∙ sym c.in_ok-push.ensures.ok in
+    let cut = ap length c.in-Some.ensures.cases.0 in
+    let more_cut = ap length c.in-Some-split_first.ensures.cases.0 in
+    let kept = c.loop-bytes.invariant.shorter in
     let count : read + plain_length rest + 2 ≡ length text - length next =
     omega (
       arith,
       c.plain_length.ensures.value,
       c.plain_length.ensures.within,
       c.split_at.ensures.back_len,
-      ap length c.in-Some.ensures.cases.0,
-      ap length c.in-Some-split_first.ensures.cases.0,
-      c.loop-bytes.invariant.shorter,
+      cut,
+      more_cut,
+      kept,
     ) in
     record {
       same =
@@ -79,12 +77,5 @@ loop-bytes-preserved c =
           ∙ (ap (λ b. given b (front ++ escaped ∷ []) (read + plain_length rest + 2) (quoted false next)) (sym c.bad_after-bad.ensures)
           ∙ (ap (λ l. given c.bad_after-bad.result l (read + plain_length rest + 2) (quoted false next)) all
           ∙ ap (λ n. given c.bad_after-bad.result c.push.new.self n (quoted false next)) count));
-      shorter =
-          omega (
-            arith,
-            c.split_at.ensures.back_len,
-            ap length c.in-Some.ensures.cases.0,
-            ap length c.in-Some-split_first.ensures.cases.0,
-            c.loop-bytes.invariant.shorter,
-          );
+      shorter = omega (arith, c.split_at.ensures.back_len, cut, more_cut, kept);
     }

@@ -2,4 +2,4 @@ use Rattle.flow_workers.specs.PassSteps.{Steps}
 use Rattle.flow_workers.proofs.drain.pass_on.Given as goal
 
 abbrev pub invariant-loop : goal.invariant-loop
-invariant-loop l = Steps l.c l.table l.initial.pass l.pass
+invariant-loop l = Steps l.desk.c.now l.desk.table.now l.initial.pass l.pass

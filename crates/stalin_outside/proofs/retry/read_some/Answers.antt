@@ -1,36 +1,11 @@
 use Rattle.std.proofs.Common.{take}
-use Rattle.stalin_outside.proofs.Interrupted.{keeps_same, keeps_then_keeps, keeps_then_consumes}
+use Rattle.stalin_outside.proofs.Interrupted.{keeps_then_consumes}
 use Rattle.stalin_outside.proofs.retry.read_some.Goals as goal
-
-pub loop-turn-init : goal.loop-turn-init
-loop-turn-init g c = keeps_same (g.R.Read.remaining c.args.reader.now)
-
-pub loop-turn-preserved : goal.loop-turn-preserved
-loop-turn-preserved g c =
-    keeps_then_keeps
-    (g.R.Read.remaining c.args.reader.now)
-    (g.R.Read.remaining c.loop-turn.reader)
-    (g.R.Read.remaining c.read.new.self)
-    c.loop-turn.invariant
-    c.in-Err.ensures.bytes
 
 pub returns-in-Ok-clause-bytes : goal.returns-in-Ok-clause-bytes
 returns-in-Ok-clause-bytes g c = (
-  keeps_then_consumes
-      (g.R.Read.remaining c.args.reader.now)
-      (g.R.Read.remaining c.loop-turn.reader)
-      (g.R.Read.remaining c.read.new.self)
-      (take c.in-Ok.count c.read.new.buf)
-      c.loop-turn.invariant
+  keeps_then_consumes (g.R.Read.remaining c.args.reader.now) (g.R.Read.remaining c.loop-turn.reader)
+      (g.R.Read.remaining c.read.new.self) (take c.in-Ok.count c.read.new.buf) c.loop-turn.invariant
       c.in-Ok.ensures.bytes.0,
   c.in-Ok.ensures.bytes.1,
 )
-
-pub returns-in-Err-2-clause-bytes : goal.returns-in-Err-2-clause-bytes
-returns-in-Err-2-clause-bytes g c =
-    keeps_then_keeps
-    (g.R.Read.remaining c.args.reader.now)
-    (g.R.Read.remaining c.loop-turn.reader)
-    (g.R.Read.remaining c.read.new.self)
-    c.loop-turn.invariant
-    c.in-Err-2.ensures.bytes

@@ -1,6 +1,6 @@
 use Rattle.std.proofs.Common.{subst}
 use Rattle.image_build.specs.Emitted.{IsAnalysed, Unanalysed}
-use Rattle.stalin_top.proofs.Stops.{stops_by, unread}
+use Rattle.stalin_top.proofs.Stops.{stops_by}
 use Rattle.stalin_top.proofs.source.analyse_source.Goals as goal
 
 pub returns-in-Ok-analyse-clause-content : goal.returns-in-Ok-analyse-clause-content
@@ -13,9 +13,6 @@ returns-in-Ok-analyse-clause-content g c =
 
 pub returns-in-Ok-analyse-clause-cause : goal.returns-in-Ok-analyse-clause-cause
 returns-in-Ok-analyse-clause-cause g c = record { later = c.read_source.ensures.cause.later; rose = λ is. absurd (cc) }
-
-pub returns-in-Err-clause-content : goal.returns-in-Err-clause-content
-returns-in-Err-clause-content g c = unread _ _ _ _ c.in-Err.ensures.content
 
 pub returns-clause-content : goal.returns-clause-content
 returns-clause-content g c =

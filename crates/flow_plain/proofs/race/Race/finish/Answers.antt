@@ -1,4 +1,4 @@
-use Rattle.flow_plain.proofs.States.{block_fits, seat_here, sized_finish, state_finished}
+use Rattle.flow_plain.proofs.States.{block_fits, sized_finish, state_finished}
 use Rattle.flow_plain.proofs.race.Race.finish.Goals as goal
 
 pub finish-requires : goal.finish-requires
@@ -10,11 +10,9 @@ finish-requires c =
 pub invariant_of-self : goal.invariant_of-self
 invariant_of-self c =
     let race = c.self.inside in
-    sized_finish race.constraints race.base.items race.words.items race.seats.items c.args.worker c.args.block
-    c.index_mut-seat.result.now c.finish.new.self c.self.invariant
-    (seat_here c.args.self.now race.constraints race.base.items race.words.items race.claims race.seats.items c.args.worker
-    c.requires.worker c.index_mut-seat.result.now c.self.view_is c.requires.worker_there c.index_mut-seat.ensures.value)
-    c.finish.ensures
+    sized_finish c.args.self.now race.constraints race.base.items race.words.items race.claims race.seats.items c.args.worker c.args.block
+    c.index_mut-seat.result.now
+    c.finish.new.self c.self.view_is c.requires c.index_mut-seat.ensures.value c.self.invariant c.finish.ensures
 
 pub returns : goal.returns
 returns c =

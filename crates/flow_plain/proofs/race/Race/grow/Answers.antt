@@ -1,5 +1,5 @@
 use Rattle.std.proofs.Common.{bit_or}
-use Rattle.flow_plain.proofs.States.{grown_sized, seat_here, sized_grow, state_grown}
+use Rattle.flow_plain.proofs.States.{grown_sized, sized_grow, state_grown}
 use Rattle.flow_plain.proofs.race.Race.grow.Goals as goal
 
 pub grow-requires : goal.grow-requires
@@ -11,12 +11,9 @@ grow-requires c =
 pub invariant_of-self : goal.invariant_of-self
 invariant_of-self c =
     let race = c.self.inside in
-    sized_grow race.constraints race.base.items race.words.items race.seats.items c.args.worker c.args.word
-    (bit_or c.args.mask c.index-found.result.now) (bit_or c.index-found.result.now c.args.mask)
-    c.index_mut-seat.result.now c.grow.new.self c.self.invariant
-    (seat_here c.args.self.now race.constraints race.base.items race.words.items race.claims race.seats.items c.args.worker
-    c.requires.worker c.index_mut-seat.result.now c.self.view_is c.requires.worker_there c.index_mut-seat.ensures.value)
-    c.grow.ensures
+    sized_grow c.args.self.now race.constraints race.base.items race.words.items race.claims race.seats.items c.args.worker c.args.word c.args.mask
+    (bit_or c.args.mask c.index-found.result.now) (bit_or c.index-found.result.now c.args.mask) c.index_mut-seat.result.now
+    c.grow.new.self c.self.view_is c.requires c.index_mut-seat.ensures.value c.self.invariant c.grow.ensures
 
 pub returns : goal.returns
 returns c =

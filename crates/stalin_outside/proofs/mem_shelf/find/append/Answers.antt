@@ -12,16 +12,9 @@ returns-in-Some-clause-count c =
 
 pub returns-in-Some-clause-files : goal.returns-in-Some-clause-files
 returns-in-Some-clause-files c =
-    changed_at
-    (grown (take c.append.result c.args.piece.now))
-    (λ file. refl)
-    c.args.files.now
-    c.args.name.now
-    c.in-Some.place
-    c.index-files-place.result
-    c.append.new.self
-    (place_is _ _ _ (sym c.place_of.ensures ∙ c.in-Some.is))
-    c.append.ensures.bytes
+    changed_at (grown (take c.append.result c.args.piece.now)) (λ file. refl) c.args.files.now c.args.name.now
+    c.in-Some.place c.index-files-place.result c.append.new.self
+    (place_is _ _ _ (sym c.place_of.ensures ∙ c.in-Some.is)) c.append.ensures.bytes
 
 pub returns-in-None-clause-count : goal.returns-in-None-clause-count
 returns-in-None-clause-count c =

@@ -11,16 +11,8 @@ returns-in-Some-clause-there c =
 
 pub returns-in-Some-clause-files : goal.returns-in-Some-clause-files
 returns-in-Some-clause-files c =
-    changed_at
-    emptied
-    (λ file. refl)
-    c.args.files.now
-    c.args.name.now
-    c.in-Some.place
-    c.index-files-place.result
-    c.empty.new.self
-    (place_is _ _ _ (sym c.place_of.ensures ∙ c.in-Some.is))
-    c.empty.ensures
+    changed_at emptied (λ file. refl) c.args.files.now c.args.name.now c.in-Some.place c.index-files-place.result
+    c.empty.new.self (place_is _ _ _ (sym c.place_of.ensures ∙ c.in-Some.is)) c.empty.ensures
 
 pub returns-in-None-clause-there : goal.returns-in-None-clause-there
 returns-in-None-clause-there c =
