@@ -2,7 +2,7 @@
 use Rattle.std.proofs.Common.{◌≡◌, ℕ, List, [], ◌∷◌, ◌++◌, Option, Bool, refl, sym, ap, subst, ◌∙◌}
 use Rattle.scheme_base.specs.declared.pos.Pos.{Pos}
 use Rattle.scheme_base.specs.declared.op.Op.{Op}
-use Rattle.named_form.specs.declared.program.Act.{Act as Deed, fold-roll-Act}
+use Rattle.named_form.specs.declared.program.Act.{Act as ActType, fold-roll-Act}
 use Rattle.named_form.specs.declared.program.Act.TheVariants as made
 use Rattle.named_form.specs.declared.program.Act.TheOpen as layer
 use Rattle.named_form.specs.declared.program.Block.{Block, out-Block}

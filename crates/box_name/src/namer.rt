@@ -2,7 +2,7 @@ ghost use Rattle.std.specs.Prelude.{◌≡◌, [], IfOk};
 ghost use Rattle.core_form.specs.declared.program.VarRef.{VarRef as Name};
 ghost use Rattle.core_form.specs.Trees.{Tree, If, Stands};
 ghost use Rattle.named_form.specs.Written.{act_of};
-ghost use Rattle.box_name.specs.Naming.{operation as deed};
+ghost use Rattle.box_name.specs.Naming.{operation as operation_act};
 ghost use Rattle.box_name.specs.NamingSteps.{Does, DoesArm, DoesLast, DoesNode, DoesNodes, IsLambdaAt, last_of as last_value};
 ghost use Rattle.box_name.specs.Told.{Define as DefineAs, assignment, reference, told, top_name};
 
@@ -246,7 +246,7 @@ impl Namer {
 
 /// What the step of an operation does with its operands.
 fn operation(op: Op, operands: Ids) -> Act
-    ensures { act_of result ≡ deed op operands }
+    ensures { act_of result ≡ operation_act op operands }
 {
     match (op, operands.as_slice()) {
         (Op::Apply, [operator, list]) => Act::Apply {

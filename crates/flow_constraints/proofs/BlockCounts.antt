@@ -3,7 +3,7 @@ use Rattle.std.proofs.Common.{◌≡◌, ℕ, ◌+◌, ◌<◌, List, ◌∷◌,
 use Rattle.std.proofs.lemmas.List.{at_drop_more}
 use Rattle.scheme_base.specs.declared.lit.Lit.{Lit}
 use Rattle.scheme_base.specs.declared.pos.Pos.{Pos}
-use Rattle.named_form.specs.declared.program.Act.{Act as Deed, fold-roll-Act}
+use Rattle.named_form.specs.declared.program.Act.{Act as ActType, fold-roll-Act}
 use Rattle.named_form.specs.declared.program.Act.TheVariants as made
 use Rattle.named_form.specs.declared.program.Act.TheOpen as layer
 use Rattle.named_form.specs.declared.program.Block.{Block, out-Block}
@@ -15,7 +15,7 @@ use Rattle.flow_constraints.specs.Counting.{code_count, lambdas_count, own_count
 use Rattle.flow_constraints.specs.Table.{ending}
 use Rattle.flow_constraints.proofs.Endings.{ending_code}
 
-pub choice_counted : (f : Flow) (lits : List Lit) (n test : ℕ) (act : Deed) (this that : Block) → act ≡ made.If test this that
+pub choice_counted : (f : Flow) (lits : List Lit) (n test : ℕ) (act : ActType) (this that : Block) → act ≡ made.If test this that
     → own_count f lits n (act_of act) ≡ (2 + value_count (out-Block this).value) + value_count (out-Block that).value
 choice_counted f lits n test act this that is =
     ap (λ a. own_count f lits n (act_of a)) is

@@ -14,11 +14,11 @@ use Rattle.named_form.specs.Code.{Code, Ends, Then, Act, Const, Copy, Prim, Call
 use Rattle.flow_constraints.specs.declared.calls.Site.{Site}
 use Rattle.flow_constraints.specs.declared.flow.Entry.{Entry}
 use Rattle.flow_constraints.specs.declared.flow.Flow.{Flow}
-use Rattle.flow_constraints.specs.declared.operations.Deed.{Deed}
+use Rattle.flow_constraints.specs.declared.operations.Operation.{Operation}
 use Rattle.flow_constraints.specs.declared.put.Guard.{Guard}
 use Rattle.flow_constraints.specs.declared.steps.Spot.{Spot}
 use Rattle.flow_constraints.specs.Rows.{row, Result, Var, Part, Items, Given, Spine, number_at}
-use Rattle.flow_constraints.specs.Table.{any_list_with, applied, apply_step_rules, call_rules, calling, choice_rules, deed_of, ending, enter_rules, fix_rules, leave_rules, list_rules, making_rules, operand, operand_rules, own_rules, parts_of, parts_under, prim_rules, reading_rules, rest_with, results, result_rules, resume_one, resume_rules, site_of, spine_pair, spine_rules, spot_of, takes, takes_of, value_rules, within, writing_rules}
+use Rattle.flow_constraints.specs.Table.{any_list_with, applied, apply_step_rules, call_rules, calling, choice_rules, operation_of, ending, enter_rules, fix_rules, leave_rules, list_rules, making_rules, operand, operand_rules, own_rules, parts_of, parts_under, prim_rules, reading_rules, rest_with, results, result_rules, resume_one, resume_rules, site_of, spine_pair, spine_rules, spot_of, takes, takes_of, value_rules, within, writing_rules}
 use Rattle.flow_constraints.specs.Counting.{any_list_count, applied_count, apply_count, applying_count, arms_count, call_count, code_count, enter_count, entering_count, holding_count, lambdas_count, list_count, own_count, procs_count, rest_count, resume_count, value_count}
 use Rattle.flow_constraints.specs.Listed.{reached_block}
 use Rattle.flow_constraints.specs.Walk.{inside, put_arms, put_code, put_lambda, put_lambdas, put_procs}
@@ -170,7 +170,7 @@ apply_many f s g y =
 map_end : (atoms : List ℕ) (rule : ℕ → Rule) → length (map rule atoms ++ []) ≡ length atoms
 map_end atoms rule = ap length (append-nil (map rule atoms)) ∙ length-map atoms rule
 
-holding_many : (f : Flow) (d : Deed) (o : Op) (ys : List ℕ)
+holding_many : (f : Flow) (d : Operation) (o : Op) (ys : List ℕ)
     → length (making_rules f d o ys ++ (reading_rules f d o (operand f ys 0) ++ writing_rules f d o ys)) ≡ holding_count f o
 holding_many f d op.Car ys = map_end f.pairs _
 holding_many f d op.Cdr ys = map_end f.pairs _
@@ -184,7 +184,7 @@ holding_many f d op.SetCdr ys = length-map f.fresh_pairs _
 holding_many f d op.VectorSet ys = length-map f.fresh_vectors _
 holding_many f d o ys = refl
 
-prim_many : (f : Flow) (d : Deed) (o : Op) (ys : List ℕ) → length (prim_rules f d o ys) ≡ length (results o) + holding_count f o
+prim_many : (f : Flow) (d : Operation) (o : Op) (ys : List ℕ) → length (prim_rules f d o ys) ≡ length (results o) + holding_count f o
 prim_many f d o ys =
     let held = making_rules f d o ys ++ (reading_rules f d o (operand f ys 0) ++ writing_rules f d o ys) in
     length-append (result_rules d (results o)) held
@@ -223,7 +223,7 @@ pub own_many : {L : Type 0} (f : Flow) (lits : List Lit) (s : Spot) (vars : List
 own_many f lits s vars (Const l) =
     ap suc (length-map (parts_under f lits (length lits) (parts_of f lits l)) _)
     ∙ one_front (length (parts_under f lits (length lits) (parts_of f lits l)))
-own_many f lits s vars (Prim o ys) = prim_many f (deed_of s) o ys
+own_many f lits s vars (Prim o ys) = prim_many f (operation_of s) o ys
 own_many f lits s vars (Call g ys) =
     call_many f (site_of f s g) (map (number_at f.vars) ys) ∙ ap (call_count f) (length-map ys (number_at f.vars))
 own_many f lits s vars (Apply g y) = apply_many f s g y

@@ -5,8 +5,8 @@ use Rattle.scheme_base.specs.declared.lit.Lit.{Lit}
 use Rattle.scheme_base.specs.declared.pos.Pos.{Pos}
 use Rattle.flow_form.specs.declared.rule.Rule.{Rule}
 use Rattle.named_form.specs.declared.program.Act.TheOpen as open_act
-use Rattle.named_form.specs.declared.program.Act.TheVariants as deed
-use Rattle.named_form.specs.declared.program.Act as deed_type
+use Rattle.named_form.specs.declared.program.Act.TheVariants as made_act
+use Rattle.named_form.specs.declared.program.Act as act_type
 use Rattle.named_form.specs.declared.program.Act.{fold-roll-Act}
 use Rattle.named_form.specs.declared.program.Block.{Block, out-Block}
 use Rattle.named_form.specs.declared.program.Proc.{Proc}
@@ -30,14 +30,14 @@ ending_steps (s ∷ ss) value = ap ending (step_out s (all_onto (map onto ss) (E
 pub ending_code : (b : Block) → ending (code b) ≡ (out-Block b).value
 ending_code b = ap ending (code_out b) ∙ ending_steps (out-Block b).steps (out-Block b).value
 
-choice_of : (test : ℕ) (this that : Block) → act_of (deed.If test this that) ≡ If test (code this) (code that)
-unfolding deed_type.roll-Act denote.Hole.Carrier.roll
+choice_of : (test : ℕ) (this that : Block) → act_of (made_act.If test this that) ≡ If test (code this) (code that)
+unfolding act_type.roll-Act denote.Hole.Carrier.roll
 choice_of test this that = fold-roll-Act (Act Pos) (Code Pos) Onto act_layer block_layer step_layer (open_act.If test this that)
 
 -- what holds of the rules of a choice with the values of its arms
 pub arms_end : (f : Flow) (lits : List Lit) (s : Spot) (vars : List ℕ) (test : ℕ) (this that : Block) (P : List Rule → Type 0)
     → P (choice_rules f s test (out-Block this).value (out-Block that).value)
-    → P (own_rules f lits s vars (act_of (deed.If test this that)))
+    → P (own_rules f lits s vars (act_of (made_act.If test this that)))
 arms_end f lits s vars test this that P h =
     subst (λ act. P (own_rules f lits s vars act)) (sym (choice_of test this that))
     (subst (λ o. P (choice_rules f s test (ending (code this)) o)) (sym (ending_code that))

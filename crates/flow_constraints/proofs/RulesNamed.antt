@@ -15,7 +15,7 @@ use Rattle.flow_constraints.specs.declared.flow.Entry.{Entry}
 use Rattle.flow_constraints.specs.declared.flow.Flow.{Flow}
 use Rattle.flow_constraints.specs.declared.flow.Kind.TheVariants as kind
 use Rattle.flow_constraints.specs.declared.literals.Part.{Part as Piece}
-use Rattle.flow_constraints.specs.declared.operations.Deed.{Deed}
+use Rattle.flow_constraints.specs.declared.operations.Operation.{Operation}
 use Rattle.flow_constraints.specs.declared.put.Guard.{Guard}
 use Rattle.flow_constraints.specs.Rows.{row, Reach, Var, Part, contents_row, continuing, number_at}
 use Rattle.flow_constraints.specs.Table.{also, always, any_list_with, applied, atom_in, call_rules, calling, enter_rules, fix_rules, closure_atom, held_rules, items_in, leave_rules, list_rules, making_rules, one_rules, operand, operand_rules, part_rule, parts_in, parts_of, parts_under, prim_rules, read_rules, reading_rules, rest_with, results, result_rules, resume_one, resume_rules, spine_pair, spine_rules, takes, value_rules, within, write_rules, writing_rules}
@@ -180,14 +180,14 @@ MakesFit f op.MakeSymbol a = IsAtom f a
 MakesFit f op.MakeString a = IsAtom f a
 MakesFit f o a = Unit {0}
 
-one_named : (f : Flow) (lits : List Lit) → FlowFits f lits → (d : Deed) (from : ℕ) → Guards f d.guard → IsRow f d.value
+one_named : (f : Flow) (lits : List Lit) → FlowFits f lits → (d : Operation) (from : ℕ) → Guards f d.guard → IsRow f d.value
     → IsAtom f d.made → IsRow f from → AllNames f (one_rules f d from)
 one_named f lits h d from guard value made there = (
   gives_atom f d.guard d.made d.value guard made value,
   (gives_row f d.guard from _ guard there (part_row f lits h d.made), tt),
 )
 
-making_named : (f : Flow) (lits : List Lit) → FlowFits f lits → (d : Deed) (o : Op) (ys : List ℕ) → Guards f d.guard
+making_named : (f : Flow) (lits : List Lit) → FlowFits f lits → (d : Operation) (o : Op) (ys : List ℕ) → Guards f d.guard
     → IsRow f d.value → MakesFit f o d.made → AllNames f (making_rules f d o ys)
 making_named f lits h d op.Cons ys guard value made = (
   gives_atom f d.guard d.made d.value guard made.atom value,
@@ -203,14 +203,14 @@ making_named f lits h d op.MakeString ys guard value made =
 making_named f lits h d o ys guard value made = tt
 
 -- parts are read of pairs, at both places, and of other atoms, at the first place
-read_pairs : (f : Flow) (d : Deed) (from : ℕ) (atoms : List ℕ) → Guards f d.guard → IsRow f d.value → IsRow f from
+read_pairs : (f : Flow) (d : Operation) (from : ℕ) (atoms : List ℕ) → Guards f d.guard → IsRow f d.value → IsRow f from
     → AllByRecursion (HasPairs f) atoms → AllNames f (read_rules f d atoms from 1)
 read_pairs f d from atoms guard value there pairs =
     of_mapped (Named f) (HasPairs f) (λ a. within (also (Has from a) d.guard) (row f (Part a 1)) d.value)
     (λ a k. gives_row f _ _ d.value (also_names f (Has from a) d.guard (there, k.atom) guard) k.parts value)
     atoms pairs
 
-read_first : (f : Flow) (lits : List Lit) → FlowFits f lits → (d : Deed) (from : ℕ) (atoms : List ℕ) → Guards f d.guard
+read_first : (f : Flow) (lits : List Lit) → FlowFits f lits → (d : Operation) (from : ℕ) (atoms : List ℕ) → Guards f d.guard
     → IsRow f d.value → IsRow f from → AllByRecursion (IsAtom f) atoms → AllNames f (read_rules f d atoms from 0)
 read_first f lits h d from atoms guard value there pairs =
     of_mapped (Named f) (IsAtom f) (λ a. within (also (Has from a) d.guard) (row f (Part a 0)) d.value)
@@ -220,7 +220,7 @@ read_first f lits h d from atoms guard value there pairs =
 pairs_are : (f : Flow) (atoms : List ℕ) → AllByRecursion (HasPairs f) atoms → AllByRecursion (IsAtom f) atoms
 pairs_are f atoms h = of_each (HasPairs f) (IsAtom f) (λ a k. k.atom) atoms h
 
-reading_named : (f : Flow) (lits : List Lit) → FlowFits f lits → (d : Deed) (o : Op) (from : ℕ) → Guards f d.guard
+reading_named : (f : Flow) (lits : List Lit) → FlowFits f lits → (d : Operation) (o : Op) (from : ℕ) → Guards f d.guard
     → IsRow f d.value → IsRow f from → AllNames f (reading_rules f d o from)
 reading_named f lits h d op.Car from guard value there =
     read_first f lits h d from f.pairs guard value there (pairs_are f f.pairs h.pairs)
@@ -248,7 +248,7 @@ write_first f lits h g to from atoms guard target there pairs =
     (λ a k. gives_row f _ from _ (also_names f (Has to a) g (target, k) guard) there (part_row f lits h a))
     atoms pairs
 
-writing_named : (f : Flow) (lits : List Lit) → FlowFits f lits → (d : Deed) (o : Op) (ys : List ℕ) → Guards f d.guard
+writing_named : (f : Flow) (lits : List Lit) → FlowFits f lits → (d : Operation) (o : Op) (ys : List ℕ) → Guards f d.guard
     → AllNames f (writing_rules f d o ys)
 writing_named f lits h d op.SetCar ys guard =
     write_first f lits h d.guard _ _ f.fresh_pairs guard (var_row f lits h _) (var_row f lits h _)
@@ -259,7 +259,7 @@ writing_named f lits h d op.VectorSet ys guard =
     write_first f lits h d.guard _ _ f.fresh_vectors guard (var_row f lits h _) (var_row f lits h _) h.fresh_vectors
 writing_named f lits h d o ys guard = tt
 
-pub prim_named : (f : Flow) (lits : List Lit) → FlowFits f lits → (d : Deed) (o : Op) (ys : List ℕ) → Guards f d.guard
+pub prim_named : (f : Flow) (lits : List Lit) → FlowFits f lits → (d : Operation) (o : Op) (ys : List ℕ) → Guards f d.guard
     → IsRow f d.value → MakesFit f o d.made → AllNames f (prim_rules f d o ys)
 prim_named f lits h d o ys guard value made =
     let reads = reading_rules f d o (operand f ys 0) in

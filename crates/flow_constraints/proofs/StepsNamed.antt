@@ -17,7 +17,7 @@ use Rattle.flow_constraints.specs.declared.steps.Spot.{Spot}
 use Rattle.flow_constraints.specs.Layout.{made_kinds, own_rows, prim_kinds}
 use Rattle.flow_constraints.specs.Listed.{reached_block}
 use Rattle.flow_constraints.specs.Rows.{row, Reach, Result, Var, Spine, Items, Given, contents_row, number_at}
-use Rattle.flow_constraints.specs.Table.{also, apply_rules, choice_rules, closure_atom, deed_of, ending, own_rules, set_rules, site_of, spine_rules, spot_of, value_rules}
+use Rattle.flow_constraints.specs.Table.{also, apply_rules, choice_rules, closure_atom, operation_of, ending, own_rules, set_rules, site_of, spine_rules, spot_of, value_rules}
 use Rattle.flow_constraints.specs.Walk.{inside, put_arms, put_code, put_lambda, put_lambdas, put_procs}
 use Rattle.flow_constraints.proofs.EachOf.{of_any_mapped, of_both, of_each, of_had}
 use Rattle.flow_constraints.proofs.RulesNamed.{AllNames, FlowFits, Guards, IsAtom, IsRow, MakesFit, Named, SiteFits, also_names, always_names, apply_named, block_row, call_named, const_named, fix_named, gives_atom, gives_row, low_atom, prim_named, spine_named, value_named, var_row}
@@ -157,7 +157,7 @@ own_named f g h b site arm pos vars (Copy y) fits names one boxes = (
   tt,
 )
 own_named f g h b site arm pos vars (Prim o ys) fits names one boxes =
-    prim_named f g.lits h.flow (deed_of (spot_of f (reached_block f b) site arm vars)) o ys (reached_names f g h.flow b)
+    prim_named f g.lits h.flow (operation_of (spot_of f (reached_block f b) site arm vars)) o ys (reached_names f g h.flow b)
     (var_row f g.lits h.flow (single vars)) (makes_fit f g h.flow o (10 + site) fits.from fits.makes)
 own_named f g h b site arm pos vars (Call operator ys) fits names one boxes =
     call_named f g.lits h.flow _ (map (number_at f.vars) ys) (site_fits f g h.flow b site arm vars operator)

@@ -17,7 +17,7 @@ use Rattle.flow_constraints.specs.declared.calls.Site.{Site}
 use Rattle.flow_constraints.specs.declared.flow.Entry.{Entry}
 use Rattle.flow_constraints.specs.declared.flow.Flow.{Flow}
 use Rattle.flow_constraints.specs.declared.literals.Part.{Part}
-use Rattle.flow_constraints.specs.declared.operations.Deed.{Deed}
+use Rattle.flow_constraints.specs.declared.operations.Operation.{Operation}
 use Rattle.flow_constraints.specs.declared.put.Guard.{Guard}
 use Rattle.flow_constraints.specs.declared.steps.Spot.{Spot}
 use Rattle.flow_constraints.specs.Rows.{row, Top, Reach, Result, Var, Part as PartOf, Inside, Spine, Items, Given, number_at, continuing}
@@ -111,14 +111,14 @@ results o = []
 abbrev pub operand : Flow → List ℕ → (place : ℕ) → ℕ
 operand f ys k = row f (Var (item_or 0 (slice_get ys k)))
 
-abbrev pub result_rules : Deed → (atoms : List ℕ) → List Rule
+abbrev pub result_rules : Operation → (atoms : List ℕ) → List Rule
 result_rules d atoms = map (λ a. atom_in d.guard a d.value) atoms
 
 -- an object that holds what stands in one row
-abbrev pub one_rules : Flow → Deed → (from : ℕ) → List Rule
+abbrev pub one_rules : Flow → Operation → (from : ℕ) → List Rule
 one_rules f d from = atom_in d.guard d.made d.value ∷ within d.guard from (row f (PartOf d.made 0)) ∷ []
 
-abbrev pub making_rules : Flow → Deed → Op → List ℕ → List Rule
+abbrev pub making_rules : Flow → Operation → Op → List ℕ → List Rule
 making_rules f d op.Cons ys =
     atom_in d.guard d.made d.value
     ∷ within d.guard (operand f ys 0) (row f (PartOf d.made 0))
@@ -130,11 +130,11 @@ making_rules f d op.MakeString ys = atom_in d.guard d.made d.value ∷ []
 making_rules f d o ys = []
 
 -- for each of these atoms: where the row has it, what stands at a place of its objects is in the value
-abbrev pub read_rules : Flow → Deed → (atoms : List ℕ) → (from place : ℕ) → List Rule
+abbrev pub read_rules : Flow → Operation → (atoms : List ℕ) → (from place : ℕ) → List Rule
 read_rules f d atoms from k = map (λ a. within (also (Has from a) d.guard) (row f (PartOf a k)) d.value) atoms
 
 -- an operation that reads a part of what stands in a row; a literal symbol's name is no such part
-abbrev pub reading_rules : Flow → Deed → Op → (from : ℕ) → List Rule
+abbrev pub reading_rules : Flow → Operation → Op → (from : ℕ) → List Rule
 reading_rules f d op.Car from = read_rules f d f.pairs from 0
 reading_rules f d op.Cdr from = read_rules f d f.pairs from 1
 reading_rules f d op.VectorRef from = read_rules f d f.vectors from 0
@@ -147,13 +147,13 @@ abbrev pub write_rules : Flow → Guard → (atoms : List ℕ) → (to from plac
 write_rules f g atoms to from k = map (λ a. within (also (Has to a) g) from (row f (PartOf a k))) atoms
 
 -- an operation that writes to its first operand, which no literal takes
-abbrev pub writing_rules : Flow → Deed → Op → List ℕ → List Rule
+abbrev pub writing_rules : Flow → Operation → Op → List ℕ → List Rule
 writing_rules f d op.SetCar ys = write_rules f d.guard f.fresh_pairs (operand f ys 0) (operand f ys 1) 0
 writing_rules f d op.SetCdr ys = write_rules f d.guard f.fresh_pairs (operand f ys 0) (operand f ys 1) 1
 writing_rules f d op.VectorSet ys = write_rules f d.guard f.fresh_vectors (operand f ys 0) (operand f ys 2) 0
 writing_rules f d o ys = []
 
-abbrev pub prim_rules : Flow → Deed → Op → List ℕ → List Rule
+abbrev pub prim_rules : Flow → Operation → Op → List ℕ → List Rule
 prim_rules f d o ys =
     result_rules d (results o)
     ++ (making_rules f d o ys ++ (reading_rules f d o (operand f ys 0) ++ writing_rules f d o ys))
@@ -277,8 +277,8 @@ abbrev pub spot_of : Flow → Guard → (site arm : ℕ) → (vars : List ℕ) �
 spot_of f g site arm vars =
     record { guard = g; made = 10 + site; arm = arm; var = single vars; row = row f (Var (single vars)) }
 
-abbrev pub deed_of : Spot → Deed
-deed_of s = record { guard = s.guard; made = s.made; value = s.row }
+abbrev pub operation_of : Spot → Operation
+operation_of s = record { guard = s.guard; made = s.made; value = s.row }
 
 abbrev pub site_of : Flow → Spot → (operator : ℕ) → Site
 site_of f s g = record { guard = s.guard; operator = row f (Var g); value = s.row }
@@ -318,7 +318,7 @@ box_rules f s y = atom_in s.guard s.made s.row ∷ within s.guard (row f (Var y)
 abbrev pub own_rules : {L : Type 0} → Flow → List Lit → Spot → (vars : List ℕ) → Act L → List Rule
 own_rules f lits s vars (Const l) = const_rules f lits s l
 own_rules f lits s vars (Copy y) = within s.guard (row f (Var y)) s.row ∷ []
-own_rules f lits s vars (Prim o ys) = prim_rules f (deed_of s) o ys
+own_rules f lits s vars (Prim o ys) = prim_rules f (operation_of s) o ys
 own_rules f lits s vars (Call g ys) = call_step_rules f s g ys
 own_rules f lits s vars (Apply g y) = apply_step_rules f s g y
 own_rules f lits s vars (CallCC g) = callcc_step_rules f s g

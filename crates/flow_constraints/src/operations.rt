@@ -15,7 +15,7 @@ use std::alloc::AllocError;
 /// An operation in a block: the guard of its rules, the atom of what it makes, if it makes something, and the
 /// row of its value.
 #[derive(Clone, Copy)]
-pub(crate) struct Deed {
+pub(crate) struct Operation {
     pub(crate) guard: Guard,
     pub(crate) made: u32,
     pub(crate) value: u32,
@@ -69,70 +69,75 @@ fn operand(flow: &Flow, operands: &[u32], place: usize) -> u32
 pub(crate) fn put_prim(
     flow: &Flow,
     rules: &mut Rules,
-    deed: Deed,
+    operation: Operation,
     op: Op,
     operands: &[u32],
 ) -> Result<(), AllocError>
-    ensures { OnOk result (rules.new ≡ rules.old ++ prim_rules flow.now deed op operands.now) }
+    ensures { OnOk result (rules.new ≡ rules.old ++ prim_rules flow.now operation op operands.now) }
 {
     for atom in results(op) {
-        put_atom(rules, deed.guard, *atom, deed.value)?;
+        put_atom(rules, operation.guard, *atom, operation.value)?;
     }
-    put_made(flow, rules, deed, op, operands)?;
-    put_reading(flow, rules, deed, op, operand(flow, operands, 0))?;
-    put_writing(flow, rules, deed, op, operands)
+    put_made(flow, rules, operation, op, operands)?;
+    put_reading(flow, rules, operation, op, operand(flow, operands, 0))?;
+    put_writing(flow, rules, operation, op, operands)
 }
 
 /// The rules of an operation that makes an object.
 fn put_made(
     flow: &Flow,
     rules: &mut Rules,
-    deed: Deed,
+    operation: Operation,
     op: Op,
     operands: &[u32],
 ) -> Result<(), AllocError>
-    ensures { OnOk result (rules.new ≡ rules.old ++ making_rules flow.now deed op operands.now) }
+    ensures { OnOk result (rules.new ≡ rules.old ++ making_rules flow.now operation op operands.now) }
 {
     match op {
         Op::Cons => {
             let car = operand(flow, operands, 0);
             let cdr = operand(flow, operands, 1);
-            put_atom(rules, deed.guard, deed.made, deed.value)?;
-            put_row(rules, deed.guard, car, flow.part(deed.made, 0)?)?;
-            put_row(rules, deed.guard, cdr, flow.part(deed.made, 1)?)
+            put_atom(rules, operation.guard, operation.made, operation.value)?;
+            put_row(rules, operation.guard, car, flow.part(operation.made, 0)?)?;
+            put_row(rules, operation.guard, cdr, flow.part(operation.made, 1)?)
         }
-        Op::MakeVector => put_one(flow, rules, deed, operand(flow, operands, 1)),
-        Op::MakeSymbol => put_one(flow, rules, deed, operand(flow, operands, 0)),
-        Op::MakeString => put_atom(rules, deed.guard, deed.made, deed.value),
+        Op::MakeVector => put_one(flow, rules, operation, operand(flow, operands, 1)),
+        Op::MakeSymbol => put_one(flow, rules, operation, operand(flow, operands, 0)),
+        Op::MakeString => put_atom(rules, operation.guard, operation.made, operation.value),
         _ => Ok(()),
     }
 }
 
 /// The rules of making an object that holds what stands in one row.
-fn put_one(flow: &Flow, rules: &mut Rules, deed: Deed, row: u32) -> Result<(), AllocError>
-    ensures { OnOk result (rules.new ≡ rules.old ++ one_rules flow.now deed row) }
+fn put_one(flow: &Flow, rules: &mut Rules, operation: Operation, row: u32) -> Result<(), AllocError>
+    ensures { OnOk result (rules.new ≡ rules.old ++ one_rules flow.now operation row) }
 {
-    put_atom(rules, deed.guard, deed.made, deed.value)?;
-    put_row(rules, deed.guard, row, flow.part(deed.made, 0)?)
+    put_atom(rules, operation.guard, operation.made, operation.value)?;
+    put_row(rules, operation.guard, row, flow.part(operation.made, 0)?)
 }
 
 /// The rules of an operation that reads a part of its first operand.
 fn put_reading(
     flow: &Flow,
     rules: &mut Rules,
-    deed: Deed,
+    operation: Operation,
     op: Op,
     row: u32,
 ) -> Result<(), AllocError>
-    ensures { OnOk result (rules.new ≡ rules.old ++ reading_rules flow.now deed op row) }
+    ensures { OnOk result (rules.new ≡ rules.old ++ reading_rules flow.now operation op row) }
 {
     match op {
-        Op::Car => put_reads(flow, rules, deed, flow.pairs.as_slice(), row, 0),
-        Op::Cdr => put_reads(flow, rules, deed, flow.pairs.as_slice(), row, 1),
-        Op::VectorRef => put_reads(flow, rules, deed, flow.vectors.as_slice(), row, 0),
+        Op::Car => put_reads(flow, rules, operation, flow.pairs.as_slice(), row, 0),
+        Op::Cdr => put_reads(flow, rules, operation, flow.pairs.as_slice(), row, 1),
+        Op::VectorRef => put_reads(flow, rules, operation, flow.vectors.as_slice(), row, 0),
         Op::SymbolName => {
-            put_atom(rules, deed.guard.has(row, SYMBOL), NAME, deed.value)?;
-            put_reads(flow, rules, deed, flow.symbols.as_slice(), row, 0)
+            put_atom(
+                rules,
+                operation.guard.has(row, SYMBOL),
+                NAME,
+                operation.value,
+            )?;
+            put_reads(flow, rules, operation, flow.symbols.as_slice(), row, 0)
         }
         _ => Ok(()),
     }
@@ -142,16 +147,16 @@ fn put_reading(
 fn put_reads(
     flow: &Flow,
     rules: &mut Rules,
-    deed: Deed,
+    operation: Operation,
     atoms: &[u32],
     row: u32,
     place: u32,
 ) -> Result<(), AllocError>
-    ensures { OnOk result (rules.new ≡ rules.old ++ read_rules flow.now deed atoms.now row place) }
+    ensures { OnOk result (rules.new ≡ rules.old ++ read_rules flow.now operation atoms.now row place) }
 {
     for atom in atoms {
-        let guard = deed.guard.has(row, *atom);
-        put_row(rules, guard, flow.part(*atom, place)?, deed.value)?;
+        let guard = operation.guard.has(row, *atom);
+        put_row(rules, guard, flow.part(*atom, place)?, operation.value)?;
     }
     Ok(())
 }
@@ -160,11 +165,11 @@ fn put_reads(
 fn put_writing(
     flow: &Flow,
     rules: &mut Rules,
-    deed: Deed,
+    operation: Operation,
     op: Op,
     operands: &[u32],
 ) -> Result<(), AllocError>
-    ensures { OnOk result (rules.new ≡ rules.old ++ writing_rules flow.now deed op operands.now) }
+    ensures { OnOk result (rules.new ≡ rules.old ++ writing_rules flow.now operation op operands.now) }
 {
     let row = operand(flow, operands, 0);
     let second = operand(flow, operands, 1);
@@ -172,9 +177,9 @@ fn put_writing(
     let pairs = flow.fresh_pairs.as_slice();
     let vectors = flow.fresh_vectors.as_slice();
     match op {
-        Op::SetCar => put_writes(flow, rules, deed.guard, pairs, row, second, 0),
-        Op::SetCdr => put_writes(flow, rules, deed.guard, pairs, row, second, 1),
-        Op::VectorSet => put_writes(flow, rules, deed.guard, vectors, row, third, 0),
+        Op::SetCar => put_writes(flow, rules, operation.guard, pairs, row, second, 0),
+        Op::SetCdr => put_writes(flow, rules, operation.guard, pairs, row, second, 1),
+        Op::VectorSet => put_writes(flow, rules, operation.guard, vectors, row, third, 0),
         _ => Ok(()),
     }
 }

@@ -4,7 +4,7 @@ ghost use Rattle.std.specs.Prelude.{◌≡◌, ◌+◌, ◌++◌, ◌∷◌, [],
 ghost use Rattle.named_form.specs.Code.{past_arms, past, past_code, option_list, first_sites, single as first_var};
 ghost use Rattle.named_form.specs.Written.{act_of, code, form, procedure};
 ghost use Rattle.flow_constraints.specs.Rows.{number_at};
-ghost use Rattle.flow_constraints.specs.Table.{apply_step_rules, box_rules, call_step_rules, callcc_step_rules, choice_rules, const_rules, deed_of, fix_rules, own_rules, set_rules, site_of, spot_of, value_rules};
+ghost use Rattle.flow_constraints.specs.Table.{apply_step_rules, box_rules, call_step_rules, callcc_step_rules, choice_rules, const_rules, operation_of, fix_rules, own_rules, set_rules, site_of, spot_of, value_rules};
 ghost use Rattle.flow_constraints.specs.Walk.{counts, inside, put_arms as arms_put, put_code, put_lambda as lambda_put, put_procs};
 
 use crate::Flow;
@@ -13,7 +13,7 @@ use crate::counts::Counts;
 use crate::flow::{at, narrow, plus};
 use crate::layout::{FIXED, single};
 use crate::literals::put_held;
-use crate::operations::{Deed, put_prim};
+use crate::operations::{Operation, put_prim};
 use crate::put::{ALWAYS, FALSE, Guard, REACHED, UNSPECIFIED, put_atom, put_row};
 use flow_form::{Rules, Test};
 use named_form::{Act, Block, Proc};
@@ -212,7 +212,7 @@ fn put_own(
         Act::Const { lit } => put_const(alloc, flow, lits, rules, spot, *lit),
         Act::Copy { from } => put_row(rules, guard, flow.var(*from), spot.row),
         Act::Prim { op, operands } => {
-            put_prim(flow, rules, deed_at(spot), *op, operands.as_slice())
+            put_prim(flow, rules, operation_at(spot), *op, operands.as_slice())
         }
         Act::Call { operator, operands } => {
             put_call_step(alloc, flow, rules, spot, *operator, operands.as_slice())
@@ -235,10 +235,10 @@ fn put_own(
 }
 
 /// An operation at a step.
-fn deed_at(spot: Spot) -> Deed
-    ensures { result ≡ deed_of spot }
+fn operation_at(spot: Spot) -> Operation
+    ensures { result ≡ operation_of spot }
 {
-    Deed {
+    Operation {
         guard: spot.guard,
         made: spot.made,
         value: spot.row,

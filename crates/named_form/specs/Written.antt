@@ -2,7 +2,7 @@
 use Rattle.std.specs.Prelude.{List, [], ◌∷◌, map}
 use Rattle.scheme_base.specs.declared.pos.Pos.{Pos}
 use Rattle.named_form.specs.declared.program.Act.TheOpen as open_act
-use Rattle.named_form.specs.declared.program.Act.{Act as Deed, fold-Act}
+use Rattle.named_form.specs.declared.program.Act.{Act as ActType, fold-Act}
 use Rattle.named_form.specs.declared.program.Block.{Block, Block-F, fold-Block}
 use Rattle.named_form.specs.declared.program.Step.{Step, fold-Step}
 use Rattle.named_form.specs.declared.program.Proc.{Proc}
@@ -47,7 +47,7 @@ abbrev pub code : Block → Code Pos
 code b = fold-Block (Act Pos) (Code Pos) Onto act_layer block_layer step_layer b
 
 -- what a step does
-abbrev pub act_of : Deed → Act Pos
+abbrev pub act_of : ActType → Act Pos
 act_of a = fold-Act (Act Pos) (Code Pos) Onto act_layer block_layer step_layer a
 
 -- a step, with what it makes of the block after it

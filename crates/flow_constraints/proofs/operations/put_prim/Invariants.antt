@@ -4,5 +4,5 @@ use Rattle.flow_constraints.proofs.operations.put_prim.Given as goal
 
 abbrev pub invariant-loop-atom : goal.invariant-loop-atom
 invariant-loop-atom l =
-    l.rules ++ map (λ a. atom_in l.deed.guard a l.deed.value) (drop l.atom-index l.atom-items)
-    ≡ l.initial.rules ++ map (λ a. atom_in l.deed.guard a l.deed.value) l.atom-items
+    l.rules ++ map (λ a. atom_in l.operation.guard a l.operation.value) (drop l.atom-index l.atom-items)
+    ≡ l.initial.rules ++ map (λ a. atom_in l.operation.guard a l.operation.value) l.atom-items

@@ -4,5 +4,5 @@ use Rattle.flow_constraints.proofs.operations.put_reads.Given as goal
 
 abbrev pub invariant-loop-atom : goal.invariant-loop-atom
 invariant-loop-atom l =
-    l.rules ++ read_rules l.flow l.deed (drop l.atom-index l.atoms) l.row l.place
-    ≡ l.initial.rules ++ read_rules l.flow l.deed l.atoms l.row l.place
+    l.rules ++ read_rules l.flow l.operation (drop l.atom-index l.atoms) l.row l.place
+    ≡ l.initial.rules ++ read_rules l.flow l.operation l.atoms l.row l.place

@@ -7,7 +7,7 @@ use Rattle.box_name.specs.Counts.{all_procs_in, procs_in}
 use Rattle.core_form.specs.Trees.{Stands}
 use Rattle.core_form.specs.Trees as tree
 use Rattle.named_form.specs.declared.program.Block.{Block, Block-F, out-Block, out-roll-Block, roll-Block}
-use Rattle.named_form.specs.declared.program.Act.{Act as Deed}
+use Rattle.named_form.specs.declared.program.Act.{Act as ActType}
 use Rattle.named_form.specs.declared.program.Step.{Step}
 use Rattle.named_form.specs.Code as act
 use Rattle.box_name.specs.NamingSteps.{Binds, BindsParams, Does, MakesArm, PutsOne, with_proc}
@@ -146,7 +146,7 @@ name_arm-returns _ c =
     λ block same is.
     make_arm s n p c.args.self.now c.name_expr.new.self (told c.args.stand.core.now.lits e) block _ c.name_expr.new.steps.items c.in_ok-value.value
     c.new-steps.ensures.items same is (c.in_ok-value.ensures e st s fits n p h k) in
-    let layer : Block-F Deed Block Step = record { steps = c.from_vec.result; value = Some c.in_ok-value.value } in
+    let layer : Block-F ActType Block Step = record { steps = c.from_vec.result; value = Some c.in_ok-value.value } in
     made (roll-Block layer) (ap (λ l. l.steps) (out-roll-Block layer) ∙ c.from_vec.ensures) (ap (λ l. l.value) (out-roll-Block layer))
 
 pub name_call-returns-in-Some : goal.name_call-returns-in-Some
