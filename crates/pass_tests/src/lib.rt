@@ -1,5 +1,5 @@
-//! Examples and tables for the passes' public calls, from the text to the solved constraints. They stand in a
-//! crate of their own, so that no pass is proved a second time for its tests.
+//! Examples and tables for the passes' public calls, from the text to the storage plan. They stand in a crate of
+//! their own, so that no pass is proved a second time for its tests.
 #![tactic(auto)]
 
 #[cfg(test)]
@@ -8,6 +8,8 @@ mod expansion;
 mod naming;
 #[cfg(test)]
 mod plain_solution;
+#[cfg(test)]
+mod plans;
 #[cfg(test)]
 mod reading;
 #[cfg(test)]
