@@ -172,12 +172,13 @@ fn sources_are_refused(rt: HostRuntime) -> Result<(), Fail> {
     Ok(())
 }
 
-/// Runs the program in the file `in` with a small heap, where these calls of the console's input and output
-/// fail: by `run`, or by `compile` and `emulate`.
+/// Runs the program in the file `in` with a heap of so many bytes, where these calls of the console's input and
+/// output fail: by `run`, or by `compile` and `emulate`.
 fn ended<R: AllocGlobal + Threads + Sync>(
     rt: &R,
     alloc: Global,
     source: &str,
+    heap: &str,
     input: &str,
     failing: &[u64],
     compiled: bool,
@@ -185,9 +186,9 @@ fn ended<R: AllocGlobal + Threads + Sync>(
     let mut shelf = MemShelf::new(alloc)?;
     shelf.add("in", source.as_bytes(), ROOM)?;
     shelf.add("out", b"", ROOM)?;
-    let mut words = words_of(alloc, &["run", "in", "--heap", "65536"])?;
+    let mut words = words_of(alloc, &["run", "in", "--heap", heap])?;
     if compiled {
-        words = words_of(alloc, &["compile", "in", "out", "--heap", "65536"])?;
+        words = words_of(alloc, &["compile", "in", "out", "--heap", heap])?;
         let _done = run(rt, alloc, &words, &mut shelf, b"", &[])?;
         words = words_of(alloc, &["emulate", "out"])?;
     }
@@ -195,7 +196,7 @@ fn ended<R: AllocGlobal + Threads + Sync>(
 }
 
 /// Programs with their input, the calls that fail, their status, their output and their errors.
-const PROGRAMS: [(&str, &str, &[u64], u8, &str, &str); 32] = [
+const PROGRAMS: [(&str, &str, &[u64], u8, &str, &str); 29] = [
     ("", "", &[], 0, "", ""),
     ("(display \"hi\")(newline)", "", &[], 0, "hi\n", ""),
     (
@@ -215,37 +216,6 @@ const PROGRAMS: [(&str, &str, &[u64], u8, &str, &str); 32] = [
         "",
     ),
     ("-2305843009213693952", "", &[], 0, "", ""),
-    ("(do ((i 0 (+ i 1))) ((= i 100000)))", "", &[], 0, "", ""),
-    (
-        "(define (f n) (let ((p (cons n n))) (car p)))
-         (define (loop i) (if (= i 0) 0 (begin (f i) (loop (- i 1)))))
-         (loop 100000)(write-char #\\z)",
-        "",
-        &[],
-        0,
-        "z",
-        "",
-    ),
-    (
-        "(define (f n) (cons n n))
-         (define (loop i) (if (= i 0) 0 (begin (f i) (loop (- i 1)))))
-         (loop 100000)(write-char #\\z)",
-        "",
-        &[],
-        2,
-        "",
-        "storage\n",
-    ),
-    (
-        "(define (loop i)
-           (if (= i 0) 0 (begin ((lambda (g) (g i)) (lambda (x) x)) (loop (- i 1)))))
-         (loop 100000)(write-char #\\z)",
-        "",
-        &[],
-        0,
-        "z",
-        "",
-    ),
     (
         "(define n 0)(define k #f)
          (display (call-with-current-continuation (lambda (c) (set! k c) 0)))
@@ -255,14 +225,6 @@ const PROGRAMS: [(&str, &str, &[u64], u8, &str, &str); 32] = [
         0,
         "012",
         "",
-    ),
-    (
-        "(define (f x) (+ 1 (f x)))(write-char #\\a)(f 0)",
-        "",
-        &[],
-        2,
-        "a",
-        "storage\n",
     ),
     (
         "(list (begin (write-char #\\a) 1) (begin (write-char #\\b) 2))",
@@ -321,6 +283,7 @@ const PROGRAMS: [(&str, &str, &[u64], u8, &str, &str); 32] = [
     ("(foo)", "", &[], 1, "", "error 3 at 1:2\n"),
     ("(5 5)", "", &[], 1, "", "error 4 at 1:1\n"),
     ("((lambda (x) x))", "", &[], 1, "", "error 5 at 1:1\n"),
+    ("(quotient 7 0)", "", &[], 1, "", "error 7 at 1:1\n"),
     (
         "(write 1)\n (quotient 7 0)",
         "",
@@ -386,6 +349,14 @@ const PROGRAMS: [(&str, &str, &[u64], u8, &str, &str); 32] = [
         "",
     ),
     (
+        "(define (f a b) (write (quotient a b)))(f -2305843009213693952 -1)",
+        "",
+        &[],
+        1,
+        "",
+        "error 6 at 1:24\n",
+    ),
+    (
         "(string-set! (string-copy \"abc\") 0 #\\x)(write-char #\\k)",
         "",
         &[],
@@ -399,7 +370,77 @@ const PROGRAMS: [(&str, &str, &[u64], u8, &str, &str); 32] = [
 fn programs_run(rt: HostRuntime) -> Result<(), Fail> {
     for (source, input, failing, status, output, text) in PROGRAMS {
         for compiled in [false, true] {
-            let (end, errors, written) = ended(&rt, rt.alloc(), source, input, failing, compiled)?;
+            let (end, errors, written) = ended(
+                &rt,
+                rt.alloc(),
+                source,
+                "65536",
+                input,
+                failing,
+                compiled,
+            )?;
+            assert_eq!(rt; end, status, "{source}");
+            assert_eq!(rt; written.as_slice(), output.as_bytes(), "{source}");
+            assert_eq!(rt; errors.as_slice(), text.as_bytes(), "{source}");
+        }
+    }
+    Ok(())
+}
+
+/// Programs with their heaps, which tell what stays for good from what ends with its activation: their status,
+/// their output and their errors.
+const IN_HEAPS: [(&str, &str, u8, &str, &str); 6] = [
+    ("(do ((i 0 (+ i 1))) ((= i 100000)))", "4096", 0, "", ""),
+    (
+        "(define (f n) (let ((p (cons n n))) (car p)))
+         (define (loop i) (if (= i 0) 0 (begin (f i) (loop (- i 1)))))
+         (loop 100000)(write-char #\\z)",
+        "4096",
+        0,
+        "z",
+        "",
+    ),
+    (
+        "(define (f n) (cons n n))
+         (define (loop i) (if (= i 0) 0 (begin (f i) (loop (- i 1)))))
+         (loop 100000)(write-char #\\z)",
+        "4096",
+        2,
+        "",
+        "storage\n",
+    ),
+    (
+        "(define (f n) (cons n n))
+         (define (loop i) (if (= i 0) 0 (begin (f i) (loop (- i 1)))))
+         (loop 1000)(write-char #\\z)",
+        "65536",
+        0,
+        "z",
+        "",
+    ),
+    (
+        "(define (loop i)
+           (if (= i 0) 0 (begin ((lambda (g) (g i)) (lambda (x) x)) (loop (- i 1)))))
+         (loop 100000)(write-char #\\z)",
+        "4096",
+        0,
+        "z",
+        "",
+    ),
+    (
+        "(define (f x) (+ 1 (f x)))(write-char #\\a)(f 0)",
+        "4096",
+        2,
+        "a",
+        "storage\n",
+    ),
+];
+
+#[test]
+fn storage_is_what_the_heap_allows(rt: HostRuntime) -> Result<(), Fail> {
+    for (source, heap, status, output, text) in IN_HEAPS {
+        for compiled in [false, true] {
+            let (end, errors, written) = ended(&rt, rt.alloc(), source, heap, "", &[], compiled)?;
             assert_eq!(rt; end, status, "{source}");
             assert_eq!(rt; written.as_slice(), output.as_bytes(), "{source}");
             assert_eq!(rt; errors.as_slice(), text.as_bytes(), "{source}");
