@@ -17,7 +17,7 @@ use scheme_expand::expand;
 use slot_facts::slots;
 use std::alloc::{AllocError, Global};
 use std::test::Fail;
-use worked::Worked;
+use worked::{Held, Storage, Worked};
 
 /// The named form of a program.
 fn named_of(alloc: Global, source: &[u8]) -> Result<Named, Fail> {
@@ -134,17 +134,21 @@ fn vars_of(alloc: Global, known: &[(u32, Stated)]) -> Result<Vec<u32>, AllocErro
     Ok(vars)
 }
 
-/// The parts in which the plan of a program is another one than was worked out.
-fn other_parts(alloc: Global, want: &Worked) -> Result<Vec<&'static str>, Fail> {
-    let named = named_of(alloc, want.source)?;
-    let plan = plan_of(alloc, &named)?;
+/// The parts of a plan's storage that are others than were worked out.
+fn other_storage(
+    alloc: Global,
+    plan: &Plan,
+    want: &Storage,
+) -> Result<Vec<&'static str>, AllocError> {
     let Plan {
         capturing,
         slots,
         marks,
         reprs,
     } = plan;
-    let nothing = vars_of(alloc, want.known)?;
+    let kept = kept(alloc, slots)?;
+    let local = local(alloc, marks.as_slice())?;
+    let idle = idle_blocks(alloc, reprs)?;
     let parts = [
         ("capturing", capturing.procs.as_slice() == want.capturing),
         (
@@ -152,46 +156,60 @@ fn other_parts(alloc: Global, want: &Worked) -> Result<Vec<&'static str>, Fail> 
             capturing.recording.as_slice() == want.recording,
         ),
         ("procedures", slots.kept.len() == want.procedures),
-        ("kept", kept(alloc, &slots)?.as_slice() == want.kept),
-        ("known", known(alloc, &slots)?.as_slice() == want.known),
+        ("kept", kept.as_slice() == want.kept),
         ("global", slots.global.as_slice() == want.global),
         ("compared", slots.compared.as_slice() == want.compared),
         ("sites", marks.len() == want.sites),
-        (
-            "local",
-            local(alloc, marks.as_slice())?.as_slice() == want.local,
-        ),
+        ("local", local.as_slice() == want.local),
+        ("blocks", reprs.blocks.len() == want.blocks),
+        ("idle blocks", idle.as_slice() == want.idle_blocks),
+    ];
+    others(alloc, &parts)
+}
+
+/// The parts of a plan that say how values are held, and are others than were worked out.
+fn other_held(alloc: Global, plan: &Plan, want: &Held) -> Result<Vec<&'static str>, AllocError> {
+    let Plan { slots, reprs, .. } = plan;
+    let known = known(alloc, slots)?;
+    let bare = held(alloc, reprs, Repr::Raw)?;
+    let nothing = held(alloc, reprs, Repr::Nothing)?;
+    let idle = idle_steps(alloc, reprs)?;
+    let unchecked = unchecked(alloc, reprs)?;
+    let parts = [
         ("variables", reprs.vars.len() == want.variables),
-        (
-            "bare",
-            held(alloc, &reprs, Repr::Raw)?.as_slice() == want.bare,
-        ),
+        ("known", known.as_slice() == want.known),
+        ("bare", bare.as_slice() == want.bare),
         (
             "nothing",
-            held(alloc, &reprs, Repr::Nothing)?.as_slice() == nothing.as_slice(),
-        ),
-        ("blocks", reprs.blocks.len() == want.blocks),
-        (
-            "idle blocks",
-            idle_blocks(alloc, &reprs)?.as_slice() == want.idle_blocks,
+            nothing.as_slice() == vars_of(alloc, want.known)?.as_slice(),
         ),
         ("steps", reprs.steps.len() == want.steps),
-        (
-            "idle steps",
-            idle_steps(alloc, &reprs)?.as_slice() == want.idle_steps,
-        ),
-        (
-            "unchecked",
-            unchecked(alloc, &reprs)?.as_slice() == want.unchecked,
-        ),
+        ("idle steps", idle.as_slice() == want.idle_steps),
+        ("unchecked", unchecked.as_slice() == want.unchecked),
     ];
-    let mut others = Vec::new(alloc);
-    for (part, same) in parts {
-        if !same {
-            others.push(part)?;
+    others(alloc, &parts)
+}
+
+/// The names of the parts that are not the same.
+fn others(alloc: Global, parts: &[(&'static str, bool)]) -> Result<Vec<&'static str>, AllocError> {
+    let mut names = Vec::new(alloc);
+    for (name, same) in parts {
+        if !*same {
+            names.push(*name)?;
         }
     }
-    Ok(others)
+    Ok(names)
+}
+
+/// The parts in which the plan of a program is another one than was worked out.
+fn other_parts(alloc: Global, want: &Worked) -> Result<Vec<&'static str>, Fail> {
+    let named = named_of(alloc, want.source)?;
+    let plan = plan_of(alloc, &named)?;
+    let mut parts = other_storage(alloc, &plan, &want.storage)?;
+    if let Some(held) = &want.held {
+        parts.append(&mut other_held(alloc, &plan, held)?)?;
+    }
+    Ok(parts)
 }
 
 #[test]
@@ -219,5 +237,23 @@ fn integers_are_held_bare(rt: HostRuntime) -> Result<(), Fail> {
 fn closures_keep_variables(rt: HostRuntime) -> Result<(), Fail> {
     let others = other_parts(rt.alloc(), &worked::CLOSURES)?;
     assert!(rt; others.is_empty(), "{others:?}");
+    Ok(())
+}
+
+#[test]
+fn programs_are_refused_as_they_run(rt: HostRuntime) -> Result<(), Fail> {
+    for want in [&worked::APPLIED, &worked::REFUSED] {
+        let others = other_parts(rt.alloc(), want)?;
+        assert!(rt; others.is_empty(), "{others:?}");
+    }
+    Ok(())
+}
+
+#[test]
+fn programs_of_the_tables_are_stored(rt: HostRuntime) -> Result<(), Fail> {
+    for want in [&worked::EXITS, &worked::COUNTERS, &worked::LOOPS] {
+        let others = other_parts(rt.alloc(), want)?;
+        assert!(rt; others.is_empty(), "{others:?}");
+    }
     Ok(())
 }
