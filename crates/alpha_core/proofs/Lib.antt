@@ -1,3 +1,8 @@
+pub mod BoundOnce
+pub mod ConstantsKept
+pub mod FineKept
+pub mod NumbersInScope
+pub mod RenamedCores
 pub mod Depths
 pub mod Making
 pub mod Names

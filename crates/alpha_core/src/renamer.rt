@@ -1,4 +1,4 @@
-ghost use Rattle.std.specs.Prelude.{◌≡◌, ◌∷◌, [], ◌++◌, length, IfOk, OnOk};
+ghost use Rattle.std.specs.Prelude.{◌≡◌, ◌<◌, ◌^◌, ◌∷◌, [], ◌++◌, length, IfOk, OnOk};
 ghost use Rattle.core_form.specs.declared.program.Var.{Var};
 ghost use Rattle.core_form.specs.Source.{Scope as Seen};
 ghost use Rattle.core_form.specs.Trees.{Tree, Trees, Ref, Lambda, If, Set, Call, Prim, Seq, Fix, Define, Stands, StandAll};
@@ -35,6 +35,14 @@ impl<'a> Renamer<'a> {
             exprs: RenExprs::new(alloc),
             next: 0,
         }
+    }
+
+    /// How many local variables have a number: so many that a number has 32 bits.
+    pub(crate) fn count(&self) -> u32
+        ensures number { result ≡ self.now.next }
+        ensures few { self.now.next < 2 ^ 32 }
+    {
+        self.next
     }
 
     /// Puts a renamed expression at the end, and answers its number.

@@ -1,6 +1,7 @@
-ghost use Rattle.std.specs.Prelude.{◌≡◌, [], IfOk, MatchResult};
+ghost use Rattle.std.specs.Prelude.{◌≡◌, ◌<◌, ◌^◌, [], length, IfOk, MatchResult};
 ghost use Rattle.core_form.specs.declared.program.Var.{Var};
 ghost use Rattle.core_form.specs.Trees.{Trees, Holds};
+ghost use Rattle.core_form.specs.Valid.{all_bound};
 ghost use Rattle.alpha_core.specs.Answers.{Answers, Refuses};
 ghost use Rattle.alpha_core.specs.Renaming.{all_renamed};
 
@@ -39,9 +40,11 @@ pub fn rename(alloc: Global, core: &Core) -> Result<Renamed, LimitErr>
 fn renamed_core(alloc: Global, core: &Core) -> Result<Renamed, AllocError>
     ensures forms { IfOk result (λ renamed. (forms : Trees Var) → Holds core.now forms → Holds renamed (all_renamed [] 0 forms)) }
     ensures lits { IfOk result (λ renamed. renamed.lits ≡ core.now.lits) }
+    ensures few { IfOk result (λ renamed. (forms : Trees Var) → Holds core.now forms → length (all_bound forms) < 2 ^ 32) }
 {
     let mut renamer = Renamer::new(alloc);
     let forms = renamer.rename_list(core, &core.forms, MOST)?;
+    let _count = renamer.count();
     let lits = copy_lits(alloc, &core.lits)?;
     Ok(Renamed {
         exprs: renamer.exprs,

@@ -9,9 +9,7 @@ use Rattle.scheme_base.specs.declared.lit.Lit.{Lit}
 use Rattle.core_form.specs.declared.program.Program.{Program}
 use Rattle.scheme_base.specs.declared.pos.Pos.{Pos}
 use Rattle.core_form.specs.declared.program.Var.{Var}
-use Rattle.core_form.specs.declared.program.VarRef.{VarRef}
 use Rattle.core_form.specs.Trees.{Holds, Trees}
-use Rattle.core_form.specs.Valid.{IsRenamed}
 use Rattle.alpha_core.specs.Answers.{most}
 use Rattle.alpha_core.specs.Depth.{deepest}
 use Rattle.alpha_core.specs.Renaming.{all_renamed}
@@ -23,7 +21,7 @@ use Rattle.datum_form.specs.declared.error.FormErr.TheVariants as broken
 use Rattle.datum_reader.specs.Answer.{Reads, ReadFault}
 use Rattle.datum_reader.specs.declared.error.ReadErr.{ReadErr}
 use Rattle.datum_reader.specs.declared.error.ReadErr.TheVariants as fault
-use Rattle.scheme_expand.specs.Programs.{faults, FormFault}
+use Rattle.scheme_expand.specs.Programs.{Expands, FormFault}
 use Rattle.elf_write.specs.File.{file_of}
 use Rattle.elf_write.specs.Valid.{IsValid}
 use Rattle.rv_form.specs.declared.image.Image.{Image}
@@ -71,24 +69,27 @@ told_limit limited.NoMemory = NoMemory
 
 -- What is built
 
--- a text reads as data of which no form is broken
-abbrev pub IsRead : List ℕ → Type 0
-IsRead source = (ds : Items) × Reads source ds × (faults ds ≡ [])
+-- These are the core of the program that a text is, and its forms.
+pub record HasCore (source : List ℕ) (core : Program Var) (forms : Trees Var) : Type 0 where
+  -- the text reads as these data
+  pub ds : Items
+  pub reads : Reads source ds
+  -- no form of them is broken, and this is what they are expanded to
+  pub expands : Expands ds core
+  pub holds : Holds core forms
 
 -- the named form of the program in core forms with these forms and literals: its local variables have numbers
 abbrev pub form_of : Trees Var → List Lit → NamedForm
 form_of forms lits = named_form (all_told lits (all_renamed [] 0 forms)) lits
 
--- A program is the named form of one in core forms, which is not too deep; where that is a valid core, the named form
--- is well formed.
-pub record IsNamed (named : Named) : Type 0 where
+-- The named form of the program that a text is: that of its core, which is not too deep.
+pub record IsNamed (source : List ℕ) (named : Named) : Type 0 where
+  pub core : Program Var
   pub forms : Trees Var
-  pub lits : List Lit
+  pub has_core : HasCore source core forms
   pub shallow : deepest forms ≤ most
-  pub is : form named ≡ form_of forms lits
-  pub renamed : Program VarRef
-  pub holds : Holds renamed (all_renamed [] 0 forms)
-  pub well_formed : IsRenamed renamed (all_renamed [] 0 forms) → WellFormed (form named)
+  pub is : form named ≡ form_of forms core.lits
+  pub well_formed : WellFormed (form named)
 
 -- the constraints of a program: those that its rows, its atoms and the list of its rules make
 pub record IsRuled (named : Named) (constraints : Constraints) : Type 0 where
@@ -98,8 +99,7 @@ pub record IsRuled (named : Named) (constraints : Constraints) : Type 0 where
 
 -- The analysis of the program that a text is: its constraints, and their least solution.
 pub record IsAnalysed (source : List ℕ) (analysis : Analysis) : Type 0 where
-  pub read : IsRead source
-  pub is_named : IsNamed analysis.named
+  pub is_named : IsNamed source analysis.named
   pub ruled : IsRuled analysis.named analysis.constraints
   pub solved : IsSolved analysis.constraints analysis.closed
 
@@ -147,9 +147,8 @@ pub record IsImage (flat : Flat) (heap : ℕ) (image : Image) : Type 0 where
 -- The file of the program that a text is, with a heap of so many bytes. Whoever worked on it, and how many,
 -- has no part in it.
 pub record Emitted (source : List ℕ) (heap : ℕ) (file : List ℕ) : Type 0 where
-  pub read : IsRead source
   pub named : Named
-  pub is_named : IsNamed named
+  pub is_named : IsNamed source named
   pub flat : Flat
   pub is_flat : IsFlat named flat
   pub image : Image
@@ -158,10 +157,12 @@ pub record Emitted (source : List ℕ) (heap : ℕ) (file : List ℕ) : Type 0 w
 
 -- Why there is none
 
--- some expressions are nested deeper than they may be, and so deep as the limit says
-pub record IsTooDeep (limit : Limit) : Type 0 where
+-- the core of a text is nested deeper than it may be, and so deep as the limit says
+pub record IsTooDeep (source : List ℕ) (limit : Limit) : Type 0 where
   pub which : limit.which ≡ kind.Depth
+  pub core : Program Var
   pub forms : Trees Var
+  pub has_core : HasCore source core forms
   pub count : limit.count ≡ deepest forms
   pub deep : most < deepest forms
 
@@ -176,14 +177,15 @@ abbrev pub IsUnlaid : Flat → LimitErr → Type 0
 IsUnlaid flat (limited.Limit l) = IsTooLarge flat l
 IsUnlaid flat limited.NoMemory = Unit {0}
 
--- a limit past which a program is not analysed: its depth, or the first of the analysis that it passes
-abbrev pub PassesEarly : Limit → Type 0
-PassesEarly l = IsTooDeep l ⊎ ((named : Named) × IsNamed named × (passed (form named) ≡ Some l))
+-- a limit past which a text is not analysed: the depth of its core, or the first of the analysis that its program passes
+abbrev pub PassesEarly : List ℕ → Limit → Type 0
+PassesEarly source l = IsTooDeep source l ⊎ ((named : Named) × IsNamed source named × (passed (form named) ≡ Some l))
 
 -- a limit past which it has no file: one of these, or that of the image
-abbrev pub PassesLate : Limit → Type 0
-PassesLate l =
-    PassesEarly l ⊎ ((named : Named) × IsNamed named × (flat : Flat) × IsFlat named flat × IsTooLarge flat l)
+abbrev pub PassesLate : List ℕ → Limit → Type 0
+PassesLate source l =
+    PassesEarly source l
+    ⊎ ((named : Named) × IsNamed source named × (flat : Flat) × IsFlat named flat × IsTooLarge flat l)
 
 -- a refusal of a pass behind the expansion, of which these limits may be passed
 abbrev pub IsLater : (Limit → Type 0) → BuildErr → Type 0
@@ -192,24 +194,23 @@ IsLater Passes (Form e) = ⊥
 IsLater Passes (Passed l) = Passes l
 IsLater Passes NoMemory = Unit {0}
 
--- a form of some data is broken: the first that is, by its least rule
-abbrev pub IsBroken : Items → BuildErr → Type 0
-IsBroken ds error = (p : Pos) × (n : ℕ) × FormFault ds p n × (error ≡ Form (broken.Broken p n))
+-- a text does not read as data
+abbrev pub IsUnread : List ℕ → BuildErr → Type 0
+IsUnread source error = (e : ReadErr) × ReadFault source e × (error ≡ told_read e)
 
--- why data are refused: a form is broken, or none is and a later pass refuses the program
-abbrev pub RefusedData : (Limit → Type 0) → Items → BuildErr → Type 0
-RefusedData Passes ds error = IsBroken ds error ⊎ ((faults ds ≡ []) × IsLater Passes error) ⊎ (error ≡ NoMemory)
+-- a form of the data that a text reads as is broken: the first that is, by its least rule
+abbrev pub IsBroken : List ℕ → BuildErr → Type 0
+IsBroken source error =
+    (ds : Items) × Reads source ds × (p : Pos) × (n : ℕ) × FormFault ds p n × (error ≡ Form (broken.Broken p n))
 
--- why a text is refused, at the reader or behind it
+-- why a text is refused: at the reader, at the expansion, or behind it; only want of memory has no cause
 abbrev pub RefusedBy : (Limit → Type 0) → List ℕ → BuildErr → Type 0
-RefusedBy Passes source error =
-    ((e : ReadErr) × ReadFault source e × (error ≡ told_read e))
-    ⊎ ((ds : Items) × Reads source ds × RefusedData Passes ds error) ⊎ (error ≡ NoMemory)
+RefusedBy Passes source error = IsUnread source error ⊎ IsBroken source error ⊎ IsLater Passes error
 
 -- why a text has no analysis
 abbrev pub Unanalysed : List ℕ → BuildErr → Type 0
-Unanalysed source error = RefusedBy PassesEarly source error
+Unanalysed source error = RefusedBy (PassesEarly source) source error
 
 -- why it has no file
 abbrev pub Refuses : List ℕ → (heap : ℕ) → BuildErr → Type 0
-Refuses source heap error = RefusedBy PassesLate source error
+Refuses source heap error = RefusedBy (PassesLate source) source error

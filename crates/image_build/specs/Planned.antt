@@ -2,7 +2,7 @@
 use Rattle.std.specs.Prelude.{ℕ, ◌≡◌, List}
 use Rattle.flow_form.specs.declared.rows.Rows.{Rows}
 use Rattle.named_form.specs.declared.plan.Plan.{Plan}
-use Rattle.named_form.specs.Valid.{Form, WellFormed}
+use Rattle.named_form.specs.Valid.{Form}
 use Rattle.named_form.specs.ValidPlan.{FitsProgram}
 use Rattle.plan_facts.specs.Capturing.{IsCapturing, recording}
 use Rattle.plan_facts.specs.Escaping.{IsEscaping}
@@ -16,8 +16,8 @@ pub record Plans (f : Form) (rows : Rows) (plan : Plan) : Type 0 where
   pub captured : IsCapturing f rows plan.capturing.procs
   pub recorded : plan.capturing.recording ≡ recording f rows plan.capturing.procs
   pub escaping : List ℕ
-  pub escapes : WellFormed f → IsEscaping f rows plan.capturing.procs escaping
+  pub escapes : IsEscaping f rows plan.capturing.procs escaping
   pub marked : AreMarks escaping plan.marks
-  pub slotted : WellFormed f → IsSlots f rows plan.capturing.procs plan.slots
+  pub slotted : IsSlots f rows plan.capturing.procs plan.slots
   pub represented : IsReprs f rows plan.slots plan.reprs
-  pub fits : WellFormed f → FitsProgram plan f.procs
+  pub fits : FitsProgram plan f.procs

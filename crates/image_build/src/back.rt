@@ -4,6 +4,8 @@ ghost use Rattle.std.specs.Prelude.{◌≡◌, ◌≤◌, ◌<◌, ◌%◌, ◌^
 ghost use Rattle.elf_write.specs.File.{file_of as file_bytes};
 ghost use Rattle.elf_write.specs.Valid.{IsValid};
 ghost use Rattle.rv_asm.specs.Layout.{AreSound, items_of};
+ghost use Rattle.named_form.specs.Valid.{WellFormed};
+ghost use Rattle.named_form.specs.Written.{form};
 ghost use Rattle.flow_workers.specs.Rounds.{IsSolved};
 ghost use Rattle.image_build.specs.Emitted.{Emitted, IsFlat, IsImage, IsRuled, IsUnlaid, Refuses, text_with};
 
@@ -53,8 +55,9 @@ pub fn build<R: AllocGlobal + Threads + Sync, G: Gate>(
     }
 }
 
-/// The flat form of a program under the storage plan of its analysis.
+/// The flat form of a well-formed program under the storage plan of its analysis.
 fn flat_of(alloc: Global, analysis: &Analysis) -> Result<Flat, AllocError>
+    requires well_formed { WellFormed (form analysis.now.named) }
     requires ruled { IsRuled analysis.now.named analysis.now.constraints }
     requires solved { IsSolved analysis.now.constraints analysis.now.closed }
     ensures { IfOk result (IsFlat analysis.now.named) }

@@ -1,11 +1,11 @@
 //! From the text of a program to its named form and its constraints.
 
-ghost use Rattle.std.specs.Prelude.{◌≡◌, [], IfOk, IfErr};
+ghost use Rattle.std.specs.Prelude.{ℕ, List, IfOk, IfErr};
 ghost use Rattle.datum_form.specs.Data.{Items};
 ghost use Rattle.datum_form.specs.Stands.{Holds};
-ghost use Rattle.core_form.specs.Text.{HasText};
-ghost use Rattle.scheme_expand.specs.Programs.{faults};
-ghost use Rattle.image_build.specs.Emitted.{IsLater, IsNamed, IsRead, IsRuled, PassesEarly, RefusedData, Unanalysed};
+ghost use Rattle.datum_reader.specs.Answer.{Reads};
+ghost use Rattle.scheme_expand.specs.Programs.{Expands};
+ghost use Rattle.image_build.specs.Emitted.{IsLater, IsNamed, IsRuled, PassesEarly, Unanalysed};
 
 use crate::BuildErr;
 use crate::error::{form_error, limit_error, read_error};
@@ -17,13 +17,12 @@ use datum_reader::read_program;
 use flow_constraints::generate;
 use flow_form::Constraints;
 use named_form::Named;
-use scheme_expand::expand;
+use scheme_expand::{expand, known_types};
 use std::alloc::Global;
 
 /// The named form of the program that a text is.
 pub(crate) fn named_of(alloc: Global, source: &[u8]) -> Result<Named, BuildErr>
-    ensures read { IfOk result (λ named. IsRead source.now) }
-    ensures is_named { IfOk result IsNamed }
+    ensures is_named { IfOk result (IsNamed source.now) }
     ensures refused { IfErr result (λ error. Unanalysed source.now error) }
 {
     let data = match read_program(alloc, source) {
@@ -33,11 +32,10 @@ pub(crate) fn named_of(alloc: Global, source: &[u8]) -> Result<Named, BuildErr>
     named_data(alloc, &data)
 }
 
-/// The named form of the program that some data are.
+/// The named form of the program that the data of a text are.
 fn named_data(alloc: Global, datums: &Datums) -> Result<Named, BuildErr>
-    ensures unbroken { (ds : Items) → Holds datums.now ds → IfOk result (λ named. faults ds ≡ []) }
-    ensures is_named { IfOk result IsNamed }
-    ensures refused { (ds : Items) → Holds datums.now ds → IfErr result (RefusedData PassesEarly ds) }
+    ensures is_named { (source : List ℕ) (ds : Items) → Reads source ds → Holds datums.now ds → IfOk result (IsNamed source) }
+    ensures refused { (source : List ℕ) (ds : Items) → Reads source ds → Holds datums.now ds → IfErr result (λ error. Unanalysed source error) }
 {
     let core = match expand(alloc, datums) {
         Ok(core) => core,
@@ -46,12 +44,12 @@ fn named_data(alloc: Global, datums: &Datums) -> Result<Named, BuildErr>
     named_core(alloc, &core)
 }
 
-/// The named form of a core.
+/// The named form of the core that the data of a text are expanded to.
 fn named_core(alloc: Global, core: &Core) -> Result<Named, BuildErr>
-    requires { HasText core.now }
-    ensures is_named { IfOk result IsNamed }
-    ensures refused { IfErr result (IsLater PassesEarly) }
+    ensures is_named { (source : List ℕ) (ds : Items) → Reads source ds → Expands ds core.now → IfOk result (IsNamed source) }
+    ensures refused { (source : List ℕ) (ds : Items) → Reads source ds → Expands ds core.now → IfErr result (IsLater (PassesEarly source)) }
 {
+    known_types(core);
     let renamed = match rename(alloc, core) {
         Ok(renamed) => renamed,
         Err(error) => return Err(limit_error(error)),
@@ -62,11 +60,10 @@ fn named_core(alloc: Global, core: &Core) -> Result<Named, BuildErr>
     }
 }
 
-/// The constraints of a program.
+/// The constraints of the program that a text is.
 pub(crate) fn constraints_of(alloc: Global, named: &Named) -> Result<Constraints, BuildErr>
-    requires { IsNamed named.now }
     ensures ruled { IfOk result (IsRuled named.now) }
-    ensures refused { IfErr result (IsLater PassesEarly) }
+    ensures refused { (source : List ℕ) → IsNamed source named.now → IfErr result (IsLater (PassesEarly source)) }
 {
     match generate(alloc, named) {
         Ok(constraints) => Ok(constraints),

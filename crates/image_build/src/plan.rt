@@ -1,6 +1,7 @@
 //! The storage plan of a program, by what its analysis says.
 
 ghost use Rattle.std.specs.Prelude.{◌≡◌, IfOk};
+ghost use Rattle.named_form.specs.Valid.{WellFormed};
 ghost use Rattle.named_form.specs.Written.{form};
 ghost use Rattle.image_build.specs.Planned.{Plans};
 
@@ -13,9 +14,10 @@ use repr_choice::reprs;
 use slot_facts::slots;
 use std::alloc::{AllocError, Global};
 
-/// The storage plan of a program with these rows: what continuations capture, which objects outlive the activation that
+/// The storage plan of a well-formed program with these rows: what continuations capture, which objects outlive the activation that
 /// makes them, which variables need slots, and how values are held.
 pub(crate) fn plan_of(alloc: Global, named: &Named, rows: &Rows) -> Result<Plan, AllocError>
+    requires { WellFormed (form named.now) }
     ensures { IfOk result (Plans (form named.now) rows.now) }
 {
     let capturing = captures(alloc, named, rows)?;

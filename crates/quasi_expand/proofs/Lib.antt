@@ -2,6 +2,11 @@ pub mod Chains
 pub mod EachIsABinding
 pub mod EachIsAClause
 pub mod FirstItem
+pub mod Giving
+pub mod Linking
 pub mod Listing
+pub mod PlainTemplates
+pub mod Stacks
 pub mod TemplateKinds
 pub mod TemplateEnds
+pub mod TemplateExprs

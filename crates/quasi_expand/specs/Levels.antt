@@ -2,7 +2,7 @@
 --
 -- The level of a datum is how many further quasiquotes it stands in, less the unquotes: what is unquoted at level 0
 -- is an expression.
-use Rattle.std.specs.Prelude.{ℕ, zero, suc, Option, Some, None, if◌then◌else◌, codes}
+use Rattle.std.specs.Prelude.{ℕ, zero, suc, if◌then◌else◌, codes}
 use Rattle.datum_form.specs.Data.{Datum, Datum as datum, Items}
 use Rattle.datum_form.specs.Data.Items.{none, item}
 use Rattle.quasi_expand.specs.Shapes.{is_word}
@@ -44,8 +44,3 @@ abbrev mutual
   in_item (datum.List p (item d (item e none))) n inside =
       if is_word (codes "unquote-splicing") d then unquoted n e (evaluated e) else inside
   in_item d n inside = inside
-
--- of a list with a tail, or of one that has none
-abbrev pub in_chain : Items → Option Datum → ℕ → Items
-in_chain ds None n = in_list ds n
-in_chain ds (Some d) n = joined (in_items ds n) (evaluated d n)

@@ -3,5 +3,7 @@ pub mod Cases
 pub mod Kinds
 pub mod Levels
 pub mod Loops
+pub mod Making
 pub mod Shapes
 pub mod Steps
+pub mod Templates

@@ -5,6 +5,9 @@
 //! `specs/Shapes` says which data are the clauses of a `case` and the bindings of a `do`, `specs/Cases` and
 //! `specs/Loops` what their parts are: what is read from nodes is exactly that, and nothing where there is
 //! none (`specs/Agreement`).
+//!
+//! Of a template the steps are read that make it. `specs/Templates` says which template a datum is, and
+//! `specs/Making` what steps make, done one after another.
 #![tactic(auto)]
 
 mod case;

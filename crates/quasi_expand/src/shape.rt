@@ -1,19 +1,18 @@
 //! What data are, as far as shapes ask.
 
-ghost use Rattle.std.specs.Prelude.{◌≡◌, Option, MatchOption};
+ghost use Rattle.std.specs.Prelude.{◌≡◌};
 ghost use Rattle.std.specs.Option.{option_copied};
 ghost use Rattle.datum_form.specs.Data.{Datum};
-ghost use Rattle.datum_form.specs.Pending.{IsKind};
 ghost use Rattle.datum_form.specs.Stands.{Stands, StandAll};
 ghost use Rattle.quasi_expand.specs.Agreement.{Agree};
 ghost use Rattle.quasi_expand.specs.Shapes.{is_name as names, is_word as is_this, list_of};
-ghost use Rattle.quasi_expand.specs.Kinds.{list_kind, name_kind, name_of};
+ghost use Rattle.quasi_expand.specs.Kinds.{list_kind, name_kind, name_of, node_kind};
 
 use datum_form::{Kind, Node};
 
 /// The kind of a node.
 pub(crate) fn kind_at(nodes: &[Node], id: u32) -> Option<&Kind>
-    ensures { (d : Datum) → Stands nodes.now id d → MatchOption result ⊥ (λ kind. IsKind nodes.now kind.now d) }
+    ensures { option_copied result ≡ node_kind nodes.now id }
 {
     match nodes.get(id as usize) {
         Some(node) => Some(&node.kind),

@@ -1,12 +1,14 @@
 //! The template of a quasiquote (R4RS 4.2.6).
 
-ghost use Rattle.std.specs.Prelude.{◌≡◌, ℕ, suc, [], ◌∷◌, List as Seq, Option as Perhaps, OnOk, IfOk, MatchOption, None};
-ghost use Rattle.datum_form.specs.declared.datums.Node.{Node as Kept};
-ghost use Rattle.datum_form.specs.Data.{Datum, Items};
-ghost use Rattle.datum_form.specs.Data.Items.{none};
+ghost use Rattle.std.specs.Prelude.{◌≡◌, ◌++◌, ℕ, suc, [], ◌∷◌, List as Seq, Option as Perhaps, OnOk, IfOk, None, codes};
+ghost use Rattle.scheme_base.specs.declared.pos.Pos.{Pos as Place};
+ghost use Rattle.datum_form.specs.Data.{Datum, Datum as datum_tree, Items};
 ghost use Rattle.datum_form.specs.Stands.{Stands, StandAll};
-ghost use Rattle.quasi_expand.specs.Levels.{evaluated, in_item, in_items, in_chain, unquoted as unquoted_at};
-ghost use Rattle.quasi_expand.specs.Steps.{exprs_in, marks, Puts, Gives, MayGive, Lists, IsNext, TailStands, EndsIn, IsSplit, IsSpliced};
+ghost use Rattle.quasi_expand.specs.declared.template.Part.TheVariants as step;
+ghost use Rattle.quasi_expand.specs.Levels.{evaluated};
+ghost use Rattle.quasi_expand.specs.Making.{MakeAll, value as value_of, link as link_of, links};
+ghost use Rattle.quasi_expand.specs.Steps.{exprs_in, marks, Gives, MayGive, GivesAt, Lists, IsNext, TailStands, HasRests, IsMarked, EndsIn, IsSplit, IsSpliced};
+ghost use Rattle.quasi_expand.specs.Templates.{Template, template as template_at, template_chain, entries, entry as entry_of, marked as marked_by, unquoted as unquoted_by};
 
 use crate::shape::{is_word, kind_at, list_items};
 use datum_form::{Kind, Node};
@@ -31,7 +33,8 @@ pub enum Part {
 
 /// The steps that make the value of a template. A datum in which no expression stands is one step.
 pub fn read_template(alloc: Global, nodes: &[Node], template: u32) -> Result<Vec<Part>, AllocError>
-    ensures { IfOk result (λ parts. (d : Datum) → Stands nodes.now template d → StandAll nodes.now (exprs_in parts.items) (evaluated d 0)) }
+    ensures exprs { IfOk result (λ parts. (d : Datum) → Stands nodes.now template d → StandAll nodes.now (exprs_in parts.items) (evaluated d 0)) }
+    ensures made { IfOk result (λ parts. (d : Datum) → Stands nodes.now template d → MakeAll nodes.now parts.items [] (template_at d 0 ∷ [])) }
 {
     let mut parts = Vec::new(alloc);
     datum(nodes, template, 0, nodes.len(), &mut parts)?;
@@ -95,7 +98,7 @@ fn split_marked<'a>(nodes: &[Node], items: &'a [u32]) -> (&'a [u32], End)
 
 /// The name and the expression of an `(unquote-splicing e)`.
 fn spliced(nodes: &[Node], item: u32) -> Option<(u32, u32)>
-    ensures { (d : Datum) → Stands nodes.now item d → IsSpliced nodes.now result d }
+    ensures { (d : Datum) → Stands nodes.now item d → IsSpliced nodes.now item result d }
 {
     let [name, expr] = list_items(nodes, item)? else {
         return None;
@@ -117,7 +120,7 @@ fn datum(
     depth: usize,
     parts: &mut Vec<Part>,
 ) -> Result<bool, AllocError>
-    ensures { IfOk result (λ found. (d : Datum) → Stands nodes.now id d → Gives nodes.now found parts.old.items parts.new.items (evaluated d level)) }
+    ensures { IfOk result (λ found. (d : Datum) → Stands nodes.now id d → Gives nodes.now found parts.old.items parts.new.items (template_at d level)) }
 {
     let Some(kind) = kind_at(nodes, id) else {
         return Err(AllocError);
@@ -147,7 +150,7 @@ fn row(
     depth: usize,
     parts: &mut Vec<Part>,
 ) -> Result<bool, AllocError>
-    ensures { IfOk result (λ found. (ds : Items) → StandAll nodes.now items.now ds → Gives nodes.now found parts.old.items parts.new.items (in_chain ds None level)) }
+    ensures { IfOk result (λ found. (p : Place) (ds : Items) → StandAll nodes.now items.now ds → Stands nodes.now node (datum_tree.Vector p ds) → HasRests nodes.now node items.now None → Gives nodes.now found parts.old.items parts.new.items (template_at (datum_tree.Vector p ds) level)) }
 {
     let found = chain(nodes, node, items, None, level, depth, parts)?;
     if found {
@@ -169,7 +172,7 @@ fn chain(
     depth: usize,
     parts: &mut Vec<Part>,
 ) -> Result<bool, AllocError>
-    ensures { IfOk result (λ found. (ds : Items) (d : Perhaps Datum) → StandAll nodes.now items.now ds → TailStands nodes.now tail d → Gives nodes.now found parts.old.items parts.new.items (in_chain ds d level)) }
+    ensures { IfOk result (λ found. (ds : Items) (d : Perhaps Datum) → StandAll nodes.now items.now ds → TailStands nodes.now tail d → HasRests nodes.now node items.now tail → GivesAt nodes.now node found parts.old.items parts.new.items (template_chain ds d level)) }
 {
     let start = parts.len();
     let (before, end) = split_end(nodes, items, tail);
@@ -210,7 +213,7 @@ fn elements(
     depth: usize,
     parts: &mut Vec<Part>,
 ) -> Result<Listed, AllocError>
-    ensures { IfOk result (λ listed. (ds : Items) → StandAll nodes.now items.now ds → Lists nodes.now listed.plain listed.found parts.old.items parts.new.items (in_items ds level)) }
+    ensures { IfOk result (λ listed. (ds : Items) → StandAll nodes.now items.now ds → Lists nodes.now listed.plain listed.found parts.old.items parts.new.items (entries ds level)) }
 {
     let mut listed = Listed {
         found: false,
@@ -255,7 +258,7 @@ fn element(
     depth: usize,
     parts: &mut Vec<Part>,
 ) -> Result<bool, AllocError>
-    ensures { IfOk result (λ found. (d : Datum) → Stands nodes.now item d → Gives nodes.now found parts.old.items parts.new.items (in_item d level (evaluated d level))) }
+    ensures { IfOk result (λ found. (d : Datum) → Stands nodes.now item d → Gives nodes.now found parts.old.items parts.new.items (value_of (entry_of d level (template_at d level)))) }
 {
     let Some((name, operand)) = spliced(nodes, item) else {
         return datum(nodes, item, level, depth, parts);
@@ -284,7 +287,7 @@ fn ending(
     depth: usize,
     parts: &mut Vec<Part>,
 ) -> Result<bool, AllocError>
-    ensures { IfOk result (λ found. (inside : ℕ → Items) → EndsIn nodes.now end inside → MayGive nodes.now found parts.old.items parts.new.items (inside level)) }
+    ensures { IfOk result (λ found. (inside : ℕ → Template) → EndsIn nodes.now node count end inside → MayGive nodes.now found parts.old.items parts.new.items (inside level)) }
 {
     match end {
         End::Empty => Ok(false),
@@ -329,7 +332,7 @@ fn unquoted(
     depth: usize,
     parts: &mut Vec<Part>,
 ) -> Result<bool, AllocError>
-    ensures { IfOk result (λ found. (e : Datum) → Stands nodes.now marked.operand e → MayGive nodes.now found parts.old.items parts.new.items (unquoted_at level e (evaluated e))) }
+    ensures { IfOk result (λ found. (x : Seq ℕ) (e : Datum) → IsMarked nodes.now x marked e → MayGive nodes.now found parts.old.items parts.new.items (unquoted_by x level e (template_at e))) }
 {
     if level == 0 {
         parts.push(Part::Expr(marked.operand))?;
@@ -347,7 +350,7 @@ fn quasiquoted(
     depth: usize,
     parts: &mut Vec<Part>,
 ) -> Result<bool, AllocError>
-    ensures { IfOk result (λ found. (e : Datum) → Stands nodes.now marked.operand e → MayGive nodes.now found parts.old.items parts.new.items (evaluated e (suc level))) }
+    ensures { IfOk result (λ found. (e : Datum) → IsMarked nodes.now (codes "quasiquote") marked e → MayGive nodes.now found parts.old.items parts.new.items (marked_by (codes "quasiquote") (template_at e (suc level)))) }
 {
     let Some(further) = level.checked_add(1) else {
         return Err(AllocError);
@@ -364,7 +367,7 @@ fn named(
     depth: usize,
     parts: &mut Vec<Part>,
 ) -> Result<bool, AllocError>
-    ensures { IfOk result (λ found. (e : Datum) → Stands nodes.now marked.operand e → MayGive nodes.now found parts.old.items parts.new.items (evaluated e level)) }
+    ensures { IfOk result (λ found. (x : Seq ℕ) (e : Datum) → IsMarked nodes.now x marked e → MayGive nodes.now found parts.old.items parts.new.items (marked_by x (template_at e level))) }
 {
     let start = parts.len();
     parts.push(Part::Datum(marked.name))?;
@@ -386,7 +389,7 @@ fn inner(
     depth: usize,
     parts: &mut Vec<Part>,
 ) -> Result<bool, AllocError>
-    ensures { IfOk result (λ found. (d : Datum) → Stands nodes.now id d → MayGive nodes.now found parts.old.items parts.new.items (evaluated d level)) }
+    ensures { IfOk result (λ found. (d : Datum) → Stands nodes.now id d → MayGive nodes.now found parts.old.items parts.new.items (template_at d level)) }
 {
     let start = parts.len();
     if datum(nodes, id, level, depth, parts)? {
@@ -398,7 +401,7 @@ fn inner(
 
 /// Adds the list of what a node has from an index on.
 fn push_rest(node: u32, from: usize, parts: &mut Vec<Part>) -> Result<(), AllocError>
-    ensures { OnOk result ((nodes : Seq Kept) → Puts nodes parts.old.items parts.new.items none) }
+    ensures { OnOk result (parts.new.items ≡ parts.old.items ++ step.Rest node from ∷ []) }
 {
     let Ok(from) = u32::try_from(from) else {
         return Err(AllocError);
@@ -414,7 +417,7 @@ fn link(
     level: usize,
     parts: &mut Vec<Part>,
 ) -> Result<(), AllocError>
-    ensures { OnOk result ((kept : Seq Kept) → Puts kept parts.old.items parts.new.items none) }
+    ensures { OnOk result ((ds : Items) → StandAll nodes.now items.now ds → parts.new.items ≡ parts.old.items ++ links (entries ds level)) }
 {
     let mut rest = items;
     while let Some((last, others)) = rest.split_last() {
@@ -426,7 +429,7 @@ fn link(
 
 /// The step that puts an item before a list.
 fn linking(nodes: &[Node], item: u32, level: usize) -> Part
-    ensures { exprs_in (result ∷ []) ≡ [] }
+    ensures { (d : Datum) → Stands nodes.now item d → result ≡ link_of (entry_of d level (template_at d level)) }
 {
     match spliced(nodes, item) {
         Some(_) if level == 0 => Part::Join,

@@ -33,11 +33,6 @@ noted_due : (a b : Expander) (p : Pos) (n : ℕ) (t : Bool) (ds : Items) (e : Ex
 noted_due a b p n t ds e h k =
     due a b (least (fault p n ∷ [])) (least (in_exp (checked p (bound_checks t ds) e))) (ap (λ x. least (in_exp x)) (sym h)) k
 
-pub no_operands : (a b : Expander) (p : Pos) (t : Bool) (ids : List ℕ) (ds : Items) (e : Exp) → ReadAll a.source ids ds → ids ≡ []
-    → Adds a b (least (fault p 4 ∷ [])) → Adds a b (least (in_exp (checked p (bound_checks t ds) e)))
-no_operands a b p t ids ds e h q k =
-    noted_due a b p 4 t ds e (ap (λ l. checked p (bound_checks t l) e) (no_items a.source ids ds q h)) k
-
 by_checks : (p : Pos) (t : Bool) (ds : Items) (e : Exp) (d : Datum) (others : Items) (x y z : Bool) → ds ≡ item d others
     → is_no_body others ≡ x → not (is_list_of is_binding d) ≡ y
     → (twice (together_words t (bindings d)) || defines_twice (body others)) ≡ z
@@ -49,22 +44,40 @@ by_checks p t ds e d others x y z are f g h =
     ∙ (ap (λ b. checked p (rule x 4 ∷ rule b 8 ∷ rule u 12 ∷ []) e) g
     ∙ ap (λ b. checked p (rule x 4 ∷ rule y 8 ∷ rule b 12 ∷ []) e) h))
 
+pub no_operands_wrong : (s : Source) (p : Pos) (t : Bool) (ids : List ℕ) (ds : Items) (e : Exp) → ReadAll s ids ds → ids ≡ []
+    → checked p (bound_checks t ds) e ≡ Wrong p 4
+no_operands_wrong s p t ids ds e h q = ap (λ l. checked p (bound_checks t l) e) (no_items s ids ds q h)
+
+pub no_operands : (a b : Expander) (p : Pos) (t : Bool) (ids : List ℕ) (ds : Items) (e : Exp) → ReadAll a.source ids ds → ids ≡ []
+    → Adds a b (least (fault p 4 ∷ [])) → Adds a b (least (in_exp (checked p (bound_checks t ds) e)))
+no_operands a b p t ids ds e h q k = noted_due a b p 4 t ds e (no_operands_wrong a.source p t ids ds e h q) k
+
+pub no_body_wrong : (s : Source) (p : Pos) (t : Bool) (ids others : List ℕ) (id : ℕ) (ds : Items) (e : Exp) → ReadAll s ids ds
+    → ids ≡ id ∷ others → ((es : Items) → ReadAll s others es → is_no_body es ≡ true)
+    → checked p (bound_checks t ds) e ≡ Wrong p 4
+no_body_wrong s p t ids others id ds e h q absent =
+    let f = first_of s ids id others ds q h in
+    by_checks p t ds e f.datum f.others true (not (is_list_of is_binding f.datum)) _ f.are (absent f.others f.rest) refl refl
+
 pub no_body_bound : (a b : Expander) (p : Pos) (t : Bool) (ids others : List ℕ) (id : ℕ) (ds : Items) (e : Exp)
     → ReadAll a.source ids ds → ids ≡ id ∷ others → ((es : Items) → ReadAll a.source others es → is_no_body es ≡ true)
     → Adds a b (least (fault p 4 ∷ [])) → Adds a b (least (in_exp (checked p (bound_checks t ds) e)))
 no_body_bound a b p t ids others id ds e h q absent k =
-    let f = first_of a.source ids id others ds q h in
-    noted_due a b p 4 t ds e
-    (by_checks p t ds e f.datum f.others true (not (is_list_of is_binding f.datum)) _ f.are (absent f.others f.rest) refl refl) k
+    noted_due a b p 4 t ds e (no_body_wrong a.source p t ids others id ds e h q absent) k
+
+pub no_pairs_wrong : (s : Source) (p : Pos) (t : Bool) (ids others : List ℕ) (id : ℕ) (ds : Items) (e : Exp) → ReadAll s ids ds
+    → ids ≡ id ∷ others → ((es : Items) → ReadAll s others es → is_no_body es ≡ false)
+    → ((d : Datum) → Reads s id d → is_list_of is_binding d ≡ false) → checked p (bound_checks t ds) e ≡ Wrong p 8
+no_pairs_wrong s p t ids others id ds e h q present pairs =
+    let f = first_of s ids id others ds q h in
+    by_checks p t ds e f.datum f.others false true _ f.are (present f.others f.rest) (ap not (pairs f.datum f.first)) refl
 
 pub no_pairs_bound : (a b : Expander) (p : Pos) (t : Bool) (ids others : List ℕ) (id : ℕ) (ds : Items) (e : Exp)
     → ReadAll a.source ids ds → ids ≡ id ∷ others → ((es : Items) → ReadAll a.source others es → is_no_body es ≡ false)
     → ((d : Datum) → Reads a.source id d → is_list_of is_binding d ≡ false)
     → Adds a b (least (fault p 8 ∷ [])) → Adds a b (least (in_exp (checked p (bound_checks t ds) e)))
-no_pairs_bound a b p t ids others id ds e h q absent pairs k =
-    let f = first_of a.source ids id others ds q h in
-    noted_due a b p 8 t ds e
-    (by_checks p t ds e f.datum f.others false true _ f.are (absent f.others f.rest) (ap not (pairs f.datum f.first)) refl) k
+no_pairs_bound a b p t ids others id ds e h q present pairs k =
+    noted_due a b p 8 t ds e (no_pairs_wrong a.source p t ids others id ds e h q present pairs) k
 
 -- what is read of a form whose bindings and body are good ones
 pub record ReadBound (s : Source) (ds : Items) (pairs : Pairs) (parts : Parts) : Type 0 where
@@ -86,24 +99,32 @@ bound_read s ids others id ds pairs parts h q inner bound =
     let c = bound f.datum f.first in
     record { first = f.datum; others = f.others; are = f.are; has_body = b.0; has_pairs = c.0; bound = c.1; inner = b.1 }
 
+pub names_twice_wrong : (s : Source) (p : Pos) (t : Bool) (ds : Items) (e : Exp) (pairs : Pairs) (parts : Parts)
+    → (i : ReadBound s ds pairs parts) → twice (together_words t (bindings i.first)) ≡ true
+    → checked p (bound_checks t ds) e ≡ Wrong p 12
+names_twice_wrong s p t ds e pairs parts i q =
+    by_checks p t ds e i.first i.others false false true i.are i.has_body (ap not i.has_pairs)
+    (ap (λ x. x || defines_twice (body i.others)) q)
+
 pub names_twice : (a b : Expander) (p : Pos) (t : Bool) (ds : Items) (e : Exp) (pairs : Pairs) (parts : Parts)
     → (i : ReadBound a.source ds pairs parts) → twice (together_words t (bindings i.first)) ≡ true
     → Adds a b (least (fault p 12 ∷ [])) → Adds a b (least (in_exp (checked p (bound_checks t ds) e)))
 names_twice a b p t ds e pairs parts i q k =
-    noted_due a b p 12 t ds e
-    (by_checks p t ds e i.first i.others false false true i.are i.has_body (ap not i.has_pairs)
-    (ap (λ x. x || defines_twice (body i.others)) q))
-    k
+    noted_due a b p 12 t ds e (names_twice_wrong a.source p t ds e pairs parts i q) k
+
+pub definitions_twice_wrong : (s : Source) (p : Pos) (t : Bool) (ds : Items) (e : Exp) (pairs : Pairs) (parts : Parts)
+    → (i : ReadBound s ds pairs parts) → twice (together_words t (bindings i.first)) ≡ false
+    → defines_twice (body i.others) ≡ true → checked p (bound_checks t ds) e ≡ Wrong p 12
+definitions_twice_wrong s p t ds e pairs parts i q r =
+    by_checks p t ds e i.first i.others false false true i.are i.has_body (ap not i.has_pairs)
+    (ap (λ x. x || defines_twice (body i.others)) q ∙ r)
 
 pub definitions_twice : (a b : Expander) (p : Pos) (t : Bool) (ds : Items) (e : Exp) (pairs : Pairs) (parts : Parts)
     → (i : ReadBound a.source ds pairs parts) → twice (together_words t (bindings i.first)) ≡ false
     → defines_twice (body i.others) ≡ true
     → Adds a b (least (fault p 12 ∷ [])) → Adds a b (least (in_exp (checked p (bound_checks t ds) e)))
 definitions_twice a b p t ds e pairs parts i q r k =
-    noted_due a b p 12 t ds e
-    (by_checks p t ds e i.first i.others false false true i.are i.has_body (ap not i.has_pairs)
-    (ap (λ x. x || defines_twice (body i.others)) q ∙ r))
-    k
+    noted_due a b p 12 t ds e (definitions_twice_wrong a.source p t ds e pairs parts i q r) k
 
 pub good_bound : (s : Source) (t : Bool) (ds : Items) (pairs : Pairs) (parts : Parts) → (i : ReadBound s ds pairs parts)
     → twice (together_words t (bindings i.first)) ≡ false → defines_twice (body i.others) ≡ false
@@ -198,20 +219,19 @@ bound_in s u t is x y q k = record {
   good = k.good;
 }
 
-pub named_due : (a z b c d e f g : Expander) (p : Pos) (w : Word) (ds : Items) (pairs : Pairs) (parts : Parts)
+pub named_due : (a z b c d e f : Expander) (p : Pos) (w : Word) (ds : Items) (pairs : Pairs) (parts : Parts)
     → AreBound a.source true ds pairs parts → Adds a z (least (in_word w))
     → ((ws : List Word) → ReadAll z.source pairs.names.items (named_data ws) → Adds z b (least (in_words ws)))
     → Adds b c None → ((es : Items) → ReadAll c.source pairs.values.items es → Adds c d (of_all es)) → Adds d e None
-    → ((x : Body) → IsBody e.source parts x → Adds e f (least (in_body x))) → Adds f g None
-    → Adds a g (least (in_exp (named_form p w ds)))
+    → ((x : Body) → IsBody e.source parts x → Adds e f (least (in_body x))) → Adds a f (least (in_exp (named_form p w ds)))
 unfolding bound_in
-named_due a z b c d e f g p w ds pairs parts i name enter wait values wait2 inner last =
+named_due a z b c d e f p w ds pairs parts i name enter wait values wait2 inner =
     let faults = in_bindings (bindings i.first) ++ in_body (body i.others) in
     let j : AreBound z.source true ds pairs parts = bound_in a.source z.source true ds pairs parts (sym name.source) i in
-    let after = then_none z f g (least faults) (parts_due z b c d e f true ds pairs parts j enter wait values wait2 inner) last in
-    due a g (earlier (least (in_word w)) (least faults)) (least (in_exp (named_form p w ds)))
+    due a f (earlier (least (in_word w)) (least faults)) (least (in_exp (named_form p w ds)))
     (sym (least_append (in_word w) faults) ∙ ap (λ x. least (in_exp x)) (sym (named_of p w ds i.first i.others i.are i.good)))
-    (both a z g (least (in_word w)) (least faults) name after)
+    (both a z f (least (in_word w)) (least faults) name
+    (parts_due z b c d e f true ds pairs parts j enter wait values wait2 inner))
 
 -- `let*` and `letrec` have the faults of a form of bindings and a body
 
@@ -244,17 +264,17 @@ rec_form a b p ds k = due a b (least (in_exp (bound_form true p ds))) (least (in
 
 -- `let` with a name, or without
 
-unnamed : (p : Pos) (d : Datum) (ds : Items) → is_name d ≡ false → let_form p (item d ds) ≡ bound_form true p (item d ds)
-unnamed p (datum.Atomic q (Symbol x)) ds e = absurd (cc)
-unnamed p (datum.Atomic q (Integer z)) ds e = refl
-unnamed p (datum.Atomic q (Boolean b)) ds e = refl
-unnamed p (datum.Atomic q (Character c)) ds e = refl
-unnamed p (datum.Atomic q (String t)) ds e = refl
-unnamed p (datum.List q is) ds e = refl
-unnamed p (datum.Dotted q is d) ds e = refl
-unnamed p (datum.Vector q is) ds e = refl
+pub without_name : (p : Pos) (d : Datum) (ds : Items) → is_name d ≡ false → let_form p (item d ds) ≡ bound_form true p (item d ds)
+without_name p (datum.Atomic q (Symbol x)) ds e = absurd (cc)
+without_name p (datum.Atomic q (Integer z)) ds e = refl
+without_name p (datum.Atomic q (Boolean b)) ds e = refl
+without_name p (datum.Atomic q (Character c)) ds e = refl
+without_name p (datum.Atomic q (String t)) ds e = refl
+without_name p (datum.List q is) ds e = refl
+without_name p (datum.Dotted q is d) ds e = refl
+without_name p (datum.Vector q is) ds e = refl
 
-with_name : (p : Pos) (w : Word) (ds : Items)
+pub with_name : (p : Pos) (w : Word) (ds : Items)
     → named_form p (word w.place w.name) ds ≡ let_form p (item (named_datum w) ds)
 with_name p w none = refl
 with_name p w (item d ds) = refl
@@ -270,7 +290,7 @@ plain_due a b p ids others id ds found h e f g k =
     due a b (least (in_exp (bound_form true p ds))) (least (in_exp (let_form p ds)))
     (ap (λ x. least (in_exp x))
     (ap (bound_form true p) r.are
-    ∙ (sym (unnamed p r.datum r.others (not_named a.source id r.datum found r.first f g)) ∙ ap (let_form p) (sym r.are))))
+    ∙ (sym (without_name p r.datum r.others (not_named a.source id r.datum found r.first f g)) ∙ ap (let_form p) (sym r.are))))
     k
 
 pub with_name_due : (a b : Expander) (p : Pos) (ids others : List ℕ) (id w : ℕ) (ds : Items) (found : Option ℕ)

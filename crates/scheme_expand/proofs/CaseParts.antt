@@ -31,7 +31,7 @@ use Rattle.scheme_expand.proofs.Parts.{no_items, last_of}
 abbrev pub of_cases : Items → Option Fault
 of_cases ds = least (in_cases (cases ds))
 
-weaker : (d : Datum) → is_case false d ≡ true → is_case true d ≡ true
+pub weaker : (d : Datum) → is_case false d ≡ true → is_case true d ≡ true
 weaker (datum.Atomic p a) h = absurd (cc)
 weaker (datum.Dotted p is d) h = absurd (cc)
 weaker (datum.Vector p is) h = absurd (cc)
@@ -41,7 +41,7 @@ weaker (datum.List p (item (datum.List q is) ds)) h = h
 weaker (datum.List p (item (datum.Dotted q is d) ds)) h = absurd (cc)
 weaker (datum.List p (item (datum.Vector q is) ds)) h = absurd (cc)
 
-more_cases : (d : Datum) (ds : Items) → is_case false d ≡ true → of_cases (item d ds) ≡ earlier (of_cases (item d none)) (of_cases ds)
+pub more_cases : (d : Datum) (ds : Items) → is_case false d ≡ true → of_cases (item d ds) ≡ earlier (of_cases (item d none)) (of_cases ds)
 more_cases (datum.Atomic p a) ds h = absurd (cc)
 more_cases (datum.Dotted p is d) ds h = absurd (cc)
 more_cases (datum.Vector p is) ds h = absurd (cc)

@@ -27,7 +27,7 @@ of_clauses ds = least (in_clauses (clauses ds))
 -- What a clause is
 
 -- the first item of a clause that may stand before others is not `else`
-no_else : (p : Pos) (t : Datum) (es : Items) → is_clause false (datum.List p (item t es)) ≡ true → is_word (codes "else") t ≡ false
+pub no_else : (p : Pos) (t : Datum) (es : Items) → is_clause false (datum.List p (item t es)) ≡ true → is_word (codes "else") t ≡ false
 no_else p t es h = by_word (is_word (codes "else") t) (passes es) h
   where
     by_word : (w b : Bool) → (if w then false else b) ≡ true → w ≡ false
@@ -63,7 +63,7 @@ clause_apart true t (exp e (exp f es)) cs = split_two (in_exp t) (in_exp f) (in_
 clause_apart false t no_exp cs = split (in_exp t) (in_clauses cs)
 clause_apart false t (exp e es) cs = split_two (in_exp t) (in_exps (exp e es)) (in_clauses cs)
 
-more_clauses : (d : Datum) (ds : Items) → is_clause false d ≡ true
+pub more_clauses : (d : Datum) (ds : Items) → is_clause false d ≡ true
     → of_clauses (item d ds) ≡ earlier (of_clauses (item d none)) (of_clauses ds)
 more_clauses (datum.Atomic p a) ds h = absurd (cc)
 more_clauses (datum.Dotted p is d) ds h = absurd (cc)

@@ -18,7 +18,7 @@ use Rattle.scheme_expand.specs.declared.source.Source.{Source}
 use Rattle.scheme_expand.specs.Forms.{Word, Exp, Exps, Steps, Wrong, Do}
 use Rattle.scheme_expand.specs.Grammar.{word, rule, checked, twice, step_words, do_of as do_with, do_form, step_list, step_before, expr, exprs}
 use Rattle.scheme_expand.specs.Faults.{Fault, least, in_exp, in_exps, in_word, in_words, in_steps}
-use Rattle.scheme_expand.specs.Shapes.{AreTurns, those}
+use Rattle.scheme_expand.specs.Shapes.{AreSteps, AreTurns, those}
 use Rattle.scheme_expand.specs.Waiting.{earlier, named_datum, named_data, IsNamed, Reads, ReadAll, Adds}
 use Rattle.scheme_expand.proofs.Adding.{both, due}
 use Rattle.scheme_expand.proofs.Bodies.{then_none}
@@ -68,6 +68,8 @@ pub record StepRead (s : Source) (b : DoBinding) (d : Datum) : Type 0 where
   pub init : Reads s b.init first
   pub step : ReadAll s (those (b.step ∷ [])) next
   pub words : (ss : Steps) → step_words (step_before d ss) ≡ word ∷ step_words ss
+  pub before : (is : List ℕ) (os : List (Option ℕ)) (ss : Steps) → AreSteps s is os ss
+      → AreSteps s (b.init ∷ is) (b.step ∷ os) (step_before d ss)
   pub same : (ss : Steps) → least (in_steps (step_before d ss))
       ≡ earlier (earlier (least (in_word word)) (earlier (of first) (of_all next))) (least (in_steps ss))
 
@@ -90,6 +92,15 @@ one_step_read : (s : Source) (o : Option ℕ) (f : Datum) → IsNamed s → Agre
 one_step_read s None f n h = absurd h
 one_step_read s (Some id) f n h = read_one s id f (record { named = n; stands = h })
 
+no_step_is : (s : Source) (o : Option ℕ) → Agree (Stands s.nodes.now) o None → o ≡ None
+no_step_is s None h = refl
+no_step_is s (Some id) h = absurd h
+
+one_step_is : (s : Source) (o : Option ℕ) (f : Datum) → Agree (Stands s.nodes.now) o (Some f)
+    → (id : ℕ) × (o ≡ Some id) × Stands s.nodes.now id f
+one_step_is s None f h = absurd h
+one_step_is s (Some id) f h = (id, refl, h)
+
 kept : (s : Source) (b : DoBinding) (p : Pos) (v e : Datum) → IsNamed s → (c : Bool) → is_name v ≡ c
     → Agree (IsStep s.nodes.now) (Some b) (if c then Some (record { name = v; first = e; next = None }) else None)
     → StepRead s b (datum.List p (item v (item e none)))
@@ -108,6 +119,9 @@ kept s b p v e n true t h =
       init = record { named = n; stands = h.first };
       step = no_step_read s b.step n h.next;
       words = λ ss. refl;
+      before =
+          λ is os ss a.
+          (b.init, is, os, refl, ap (λ o. o ∷ os) (no_step_is s b.step h.next), e, record { named = n; stands = h.first }, refl, a);
       same =
           λ ss.
           least_append (in_word w) (in_exp (expr e) ++ in_steps ss)
@@ -136,6 +150,23 @@ changed s b p v e f n true t h =
       init = record { named = n; stands = h.first };
       step = one_step_read s b.step f n h.next;
       words = λ ss. refl;
+      before =
+          λ is os ss a.
+          let g = one_step_is s b.step f h.next in (
+            b.init,
+            is,
+            os,
+            g.0,
+            refl,
+            ap (λ o. o ∷ os) g.1,
+            e,
+            record { named = n; stands = h.first },
+            refl,
+            f,
+            record { named = n; stands = g.2 },
+            refl,
+            a,
+          );
       same =
           λ ss.
           least_append (in_word w) (in_exp (expr e) ++ (in_exp (expr f) ++ in_steps ss))
@@ -171,6 +202,8 @@ pub record TurnsRead (s : Source) (ds : Items) (names values : List ℕ) (nexts 
   pub steps : ReadAll s (those nexts) next
   pub read : ReadAll s rest left
   pub bound : step_words (step_list ds) ≡ words ++ step_words (step_list left)
+  pub are : (is : List ℕ) (os : List (Option ℕ)) → AreSteps s is os (step_list left)
+      → AreSteps s (values ++ is) (nexts ++ os) (step_list ds)
   pub total : least (in_steps (step_list ds)) ≡ earlier (three words first next) (least (in_steps (step_list left)))
 
 pub no_turns_read : (s : Source) (ids names inits : List ℕ) (nexts : List (Option ℕ)) (ds : Items) → ReadAll s ids ds
@@ -185,6 +218,11 @@ no_turns_read s ids names inits nexts ds h e f g = record {
   steps = record { named = h.named; stand = ap those g };
   read = h;
   bound = refl;
+  are =
+      λ is os a.
+      let P : List ℕ → Type 0 = λ l. AreSteps s (l ++ is) os (step_list ds) in
+      let Q : List (Option ℕ) → Type 0 = λ l. AreSteps s (inits ++ is) (l ++ os) (step_list ds) in
+      subst Q (sym g) (subst P (sym f) a);
   total = refl;
 }
 
@@ -222,6 +260,14 @@ one_turn_read s ds names inits names2 inits2 rest others nexts nexts2 id b i e p
           i.bound
           ∙ (ap (λ l. i.words ++ step_words (step_list l)) f.are
           ∙ (ap (λ l. i.words ++ l) (n.words ss) ∙ sym (append_assoc i.words (w ∷ []) (step_words ss))));
+      are =
+          λ is os a.
+          let S : Items → Type 0 = λ l. AreSteps s (b.init ∷ is) (b.step ∷ os) (step_list l) in
+          let T : List ℕ → Type 0 = λ l. AreSteps s l (nexts ++ b.step ∷ os) (step_list ds) in
+          let U : List (Option ℕ) → Type 0 = λ l. AreSteps s (inits2 ++ is) l (step_list ds) in
+          subst U (sym (ap (λ l. l ++ os) r ∙ append_assoc nexts (b.step ∷ []) os))
+          (subst T (sym (ap (λ l. l ++ is) q ∙ append_assoc inits (b.init ∷ []) is))
+          (i.are (b.init ∷ is) (b.step ∷ os) (subst S (sym f.are) (n.before is os ss a))));
       total =
           i.total
           ∙ (ap (λ l. earlier (three i.words i.first i.next) (least (in_steps (step_list l)))) f.are
@@ -250,6 +296,12 @@ all_turns_read s ds names inits rest nexts turns i e p q r =
       next = i.next;
       inits = subst Q (sym q) i.inits;
       steps = subst R (sym (ap those r)) i.steps;
+      are =
+          let S : Items → Type 0 = λ l. AreSteps s [] [] (step_list l) in
+          let T : List ℕ → Type 0 = λ l. AreSteps s l (nexts ++ []) (step_list ds) in
+          let U : List (Option ℕ) → Type 0 = λ l. AreSteps s turns.inits.items l (step_list ds) in
+          subst U (append-nil nexts ∙ sym r)
+          (subst T (append-nil inits ∙ sym q) (i.are [] [] (subst S (sym over) (refl, refl))));
       same =
           i.total
           ∙ (ap (λ x. earlier (three i.words i.first i.next) (least (in_steps (step_list x)))) over

@@ -42,15 +42,15 @@ no_fault a b ds none d e = least_none (faults ds) (due_is a b (least (faults ds)
 
 -- the names of two texts are numbered behind those of a table, and the second text is read
 pub second_read : (s : Source) (a b c : List (List ℕ)) (f g : List (Option ℕ)) (others nodes text : List Node) (tops : List ℕ)
-    (ds : Items) → IsTable a → Names a b f others → Names b c g nodes → s.place ≡ None → s.nodes.now ≡ nodes → s.words.now ≡ g
+    (ds : Items) → IsTable a → Names a b f others → Names b c g nodes → s.nodes.now ≡ nodes → s.words.now ≡ g
     → nodes ≡ text → StandAll text tops ds → ReadAll s tops ds
-second_read s a b c f g others nodes text tops ds t p q own n w same h =
+second_read s a b c f g others nodes text tops ds t p q n w same h =
     let P : List Node → Type 0 = λ l. AreWordsOf c g l in
     let Q : List (Option ℕ) → Type 0 = λ l. AreWordsOf c l s.nodes.now in
     let R : List Node → Type 0 = λ l. StandAll l tops ds in
     record {
       named =
-          source_named s c (table_grows b c (table_grows a b t p.grows) q.grows) own
+          source_named s c (table_grows b c (table_grows a b t p.grows) q.grows)
           (subst Q (sym w) (subst P (sym n) q.words));
       stand = subst R (sym (n ∙ same)) h;
     }

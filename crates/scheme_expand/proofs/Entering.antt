@@ -29,6 +29,15 @@ abbrev others_in : Items → Items
 others_in none = none
 others_in (item d ds) = ds
 
+-- the first of some names, and the others
+pub first_name : (s : Source) (all ids : List ℕ) (id : ℕ) (w : Word) (ws : List Word) → all ≡ id ∷ ids
+    → ReadAll s all (named_data (w ∷ ws)) → Reads s id (named_datum w) × ReadAll s ids (named_data ws)
+first_name s all ids id w ws e h =
+    let r = first_of s all id ids (named_data (w ∷ ws)) e h in
+    let P : Datum → Type 0 = λ d. Reads s id d in
+    let Q : Items → Type 0 = λ ds. ReadAll s ids ds in
+    (subst P (ap (first_or (named_datum w)) (sym r.are)) r.first, subst Q (ap others_in (sym r.are)) r.rest)
+
 entered : (a b c : Expander) (rest others : List ℕ) (id : ℕ) (ws left : List Word) (paid : Option Fault)
     → rest ≡ id ∷ others → ReadAll a.source rest (named_data left) → Adds a b paid
     → earlier paid (least (in_words left)) ≡ least (in_words ws)
@@ -36,17 +45,13 @@ entered : (a b c : Expander) (rest others : List ℕ) (id : ℕ) (ws left : List
 entered a b c rest others id ws [] paid e read adds total name =
     absurd (let none_left : rest ≡ [] = read.stand in let more : [] ≡ id ∷ others = sym none_left ∙ e in cc)
 entered a b c rest others id ws (w ∷ left) paid e read adds total name =
-    let r = first_of a.source rest id others (named_data (w ∷ left)) e read in
-    let datum : r.datum ≡ named_datum w = ap (first_or (named_datum w)) (sym r.are) in
-    let rest_are : r.others ≡ named_data left = ap others_in (sym r.are) in
+    let r = first_name a.source rest others id w left e read in
     let P : Source → Type 0 = λ s. Reads s id (named_datum w) in
-    let Q : Datum → Type 0 = λ d. Reads a.source id d in
-    let R : Items → Type 0 = λ ds. ReadAll a.source others ds in
     record {
       left = left;
-      read = subst R rest_are r.rest;
+      read = r.1;
       paid = earlier paid (least (in_word w));
-      adds = both a b c paid (least (in_word w)) adds (name w (subst P (sym adds.source) (subst Q datum r.first)));
+      adds = both a b c paid (least (in_word w)) adds (name w (subst P (sym adds.source) r.0));
       total =
           earlier_assoc paid (least (in_word w)) (least (in_words left))
           ∙ (ap (earlier paid) (sym (least_append (in_word w) (in_words left))) ∙ total);

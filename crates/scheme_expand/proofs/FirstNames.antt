@@ -19,7 +19,7 @@ or_end true b = refl
 or_end false true = refl
 or_end false false = refl
 
-has_behind : (xs : List (List ℕ)) (x y : List ℕ) → has_name (xs ++ x ∷ []) y ≡ (has_name xs y || bytes_eq y x)
+pub has_behind : (xs : List (List ℕ)) (x y : List ℕ) → has_name (xs ++ x ∷ []) y ≡ (has_name xs y || bytes_eq y x)
 has_behind xs x y = list_any-append (bytes_eq y) xs (x ∷ []) ∙ or_end (has_name xs y) (bytes_eq y x)
 
 abbrev one_if_not : Bool → List ℕ → List (List ℕ)

@@ -1,6 +1,6 @@
 -- Integrated calls are good drafts.
 use Rattle.std.proofs.Common.{◌≡◌, ℕ, zero, suc, List, [], ◌∷◌, length, Option, Some, None, Bool, true, false, inl, inr, refl, sym, ap, eqb-true}
-use Rattle.std.specs.Prelude.{pos, nat_eq, if◌then◌else◌, codes}
+use Rattle.std.specs.Prelude.{ℤ, pos, nat_eq, if◌then◌else◌, codes}
 use Rattle.std.specs.Str.{bytes_eq}
 use Rattle.scheme_base.specs.declared.pos.Pos.{Pos}
 use Rattle.scheme_base.specs.declared.op.Op.{Op}
@@ -9,8 +9,8 @@ use Rattle.scheme_base.specs.Operands.{name_of, operands_of}
 use Rattle.scheme_base.specs.Constants.{Constant as constant}
 use Rattle.scheme_expand.proofs.OfData.{IsOfData}
 use Rattle.scheme_expand.specs.Grammar.{Reading, form, begun}
-use Rattle.draft_form.specs.Drafts.{Draft, Drafts, Fresh, Const, Symbols, Prim, none, item}
-use Rattle.scheme_expand.specs.Calls.{count, two, negation, fresh, references, folded, sum, difference, Comparison, Equal, Less, Greater, NotGreater, NotLess, comparison, compared, listed, Way, Sums, Differs, Compares, Lists, way, binds, bound_first, operation, at_once, negated, public_calls, operations, named_operation, library_call, integrated}
+use Rattle.draft_form.specs.Drafts.{Draft, Drafts, Fresh, Const, Prim, none, item}
+use Rattle.scheme_expand.specs.Calls.{count, two, negation, fresh, references, folded, sum, difference, Comparison, Equal, Less, Greater, NotGreater, NotLess, comparison, compared, listed, Way, Sums, Differs, Compares, Lists, way, binds, bound_first, operation, at_once, negated, public_calls, operations, named_operation, symbol_call, library_call, integrated}
 use Rattle.scheme_expand.specs.Rewriting.{variables, unnamed, inside}
 use Rattle.scheme_expand.proofs.GoodDrafts.{Good, AllGood}
 
@@ -48,10 +48,10 @@ good_folded bound p o e [] n h k = h
 good_folded bound p o e (t ∷ ts) n h k =
     good_folded bound p o (Prim p o (two e t)) ts n (good_two bound p o e t n h k.0) k.1
 
-good_sum : (bound : List (List ℕ)) (p : Pos) (o : Op) (n : ℕ) (ts : List Draft) → length (operands_of o) ≡ 2
-    → IsOfData (constant.Integer (pos n)) → GoodList bound ts → Good bound (sum p o n ts)
+good_sum : (bound : List (List ℕ)) (p : Pos) (o : Op) (n : ℤ) (ts : List Draft) → length (operands_of o) ≡ 2
+    → IsOfData (constant.Integer n) → GoodList bound ts → Good bound (sum p o n ts)
 good_sum bound p o n [] two_ part h = part
-good_sum bound p o n (t ∷ []) two_ part h = good_two bound p o (Const p (constant.Integer (pos n))) t two_ part h.0
+good_sum bound p o n (t ∷ []) two_ part h = good_two bound p o (Const p (constant.Integer n)) t two_ part h.0
 good_sum bound p o n (t ∷ u ∷ ts) two_ part h = good_folded bound p o t (u ∷ ts) two_ h.0 h.1
 
 good_difference : (bound : List (List ℕ)) (p : Pos) (t : Draft) (ts : List Draft) → Good bound t → GoodList bound ts
@@ -78,7 +78,7 @@ good_listed bound p [] h = tt
 good_listed bound p (t ∷ ts) h = good_two bound p op.Cons t (listed p ts) refl h.0 (good_listed bound p ts h.1)
 
 abbrev IsWay : Way → Type 0
-IsWay (Sums o n) = (length (operands_of o) ≡ 2) × IsOfData (constant.Integer (pos n))
+IsWay (Sums o n) = (length (operands_of o) ≡ 2) × IsOfData (constant.Integer n)
 IsWay w = Unit {0}
 
 good_way : (bound : List (List ℕ)) (p : Pos) (w : Way) (ts : List Draft) → IsWay w → GoodList bound ts
@@ -153,10 +153,15 @@ good_named bound p x es (o ∷ os) h =
     chosen (GoodMaybe bound) (bytes_eq x (name_of o)) (operation p o es) (named_operation p x es os)
     (good_operation bound p o es h) (good_named bound p x es os h)
 
+good_symbol_call : (bound : List (List ℕ)) (p : Pos) (es : Drafts) → GoodMaybe bound (symbol_call p es)
+good_symbol_call bound p none = tt
+good_symbol_call bound p (item e es) = tt
+
 good_library_call : (bound : List (List ℕ)) (p : Pos) (x : List ℕ) (es : Drafts) → AllGood bound es
     → GoodMaybe bound (library_call p x es)
 good_library_call bound p x es h =
-    chosen (GoodMaybe bound) (bytes_eq x (codes "%symbols")) (Some (Symbols p)) (named_operation p x es operations) tt
+    chosen (GoodMaybe bound) (bytes_eq x (codes "%symbols")) (symbol_call p es) (named_operation p x es operations)
+    (good_symbol_call bound p es)
     (good_named bound p x es operations h)
 
 good_public : (bound : List (List ℕ)) (p : Pos) (es : Drafts) → AllGood bound es
@@ -242,9 +247,9 @@ good_public bound p es a =
                                                                                 (
                                                                                   good_negated bound p es a,
                                                                                   (
-                                                                                    good_at_once bound p op.Add es (bound_first p (length bound) es (way p (Sums op.Add 0) (references p (length bound) es))) refl a (first (Sums op.Add 0) (refl, refl)),
+                                                                                    good_at_once bound p op.Add es (bound_first p (length bound) es (way p (Sums op.Add (pos 0)) (references p (length bound) es))) refl a (first (Sums op.Add (pos 0)) (refl, refl)),
                                                                                     (
-                                                                                      good_at_once bound p op.Multiply es (bound_first p (length bound) es (way p (Sums op.Multiply 1) (references p (length bound) es))) refl a (first (Sums op.Multiply 1) (refl, refl)),
+                                                                                      good_at_once bound p op.Multiply es (bound_first p (length bound) es (way p (Sums op.Multiply (pos 1)) (references p (length bound) es))) refl a (first (Sums op.Multiply (pos 1)) (refl, refl)),
                                                                                       (
                                                                                         good_at_once bound p op.Subtract es (bound_first p (length bound) es (way p Differs (references p (length bound) es))) refl a (first Differs tt),
                                                                                         (

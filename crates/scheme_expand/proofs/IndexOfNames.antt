@@ -14,12 +14,12 @@ use Rattle.scheme_expand.proofs.Scoping.{apart, some_none, same_bytes, bytes_sam
 
 -- Items of a list
 
-set_there : {A : Type 0} (xs : List A) (i : ℕ) (x : A) → i < length xs → slice_get (slice_set xs i x) i ≡ Some x
+pub set_there : {A : Type 0} (xs : List A) (i : ℕ) (x : A) → i < length xs → slice_get (slice_set xs i x) i ≡ Some x
 set_there [] i x h = absurd (omega (arith, h))
 set_there (y ∷ xs) zero x h = refl
 set_there (y ∷ xs) (suc i) x h = set_there xs i x (omega (arith, h))
 
-set_elsewhere : {A : Type 0} (xs : List A) (i j : ℕ) (x : A) → (j ≡ i → ⊥) → slice_get (slice_set xs i x) j ≡ slice_get xs j
+pub set_elsewhere : {A : Type 0} (xs : List A) (i j : ℕ) (x : A) → (j ≡ i → ⊥) → slice_get (slice_set xs i x) j ≡ slice_get xs j
 set_elsewhere [] i j x h = refl
 set_elsewhere (y ∷ xs) zero zero x h = absurd (h refl)
 set_elsewhere (y ∷ xs) zero (suc j) x h = refl

@@ -55,5 +55,9 @@ pub none_those : (os : List (Option ℕ)) → length os ≡ 0 → those os ≡ [
 none_those [] e = refl
 none_those (o ∷ os) e = absurd (omega (arith, e))
 
+pub no_steps : (os : List (Option ℕ)) → length os ≡ 0 → os ≡ []
+no_steps [] e = refl
+no_steps (o ∷ os) e = absurd (omega (arith, e))
+
 pub no_results : (a b : Expander) (ids : List ℕ) (ds : Items) → ReadAll a.source ids ds → ids ≡ [] → Adds a b None → Adds a b (of_all ds)
 no_results a b ids ds h e k = due a b None (of_all ds) (ap of_all (sym (no_items a.source ids ds e h))) k

@@ -11,30 +11,28 @@ use Rattle.datum_form.specs.Stands.{Stands}
 use Rattle.scheme_expand.specs.declared.source.Source.{Source}
 use Rattle.scheme_expand.specs.declared.words.Keyword.{Keyword}
 use Rattle.scheme_expand.specs.declared.words.Keyword.TheVariants as keyword
-use Rattle.scheme_expand.specs.Naming.{IsTable, Grows, IsWordOf, AreWordsOf, Names, keyword_names}
+use Rattle.scheme_expand.specs.Naming.{IsTable, Grows, IsWordOf, AreWordsOf, Names, keyword_names, known_names, operation_names, table_names}
 use Rattle.scheme_expand.specs.Noted.{level_in}
 use Rattle.scheme_expand.specs.Waiting.{HasWord, IsNamed, keyword_table, keyword_at, keyword_named, name_of}
 use Rattle.scheme_expand.proofs.Named.{named, is_name}
+use Rattle.scheme_expand.proofs.NumberedNames.{adds_twice}
 
 -- Lists of names
 
-get_front : {A : Type 0} (xs ys : List A) (i : ℕ) (x : A) → slice_get xs i ≡ Some x → slice_get (xs ++ ys) i ≡ Some x
+pub get_front : {A : Type 0} (xs ys : List A) (i : ℕ) (x : A) → slice_get xs i ≡ Some x → slice_get (xs ++ ys) i ≡ Some x
 get_front [] ys i x h = absurd (cc)
 get_front (y ∷ xs) ys zero x h = h
 get_front (y ∷ xs) ys (suc i) x h = get_front xs ys i x h
 
 pub same_names : (names : List (List ℕ)) → Grows names names
-same_names names = record { more = []; longer = sym (append-nil names); distinct = λ h. h }
+same_names names =
+    record { more = []; adds = record { longer = sym (append-nil names); distinct = λ h. h; named = λ h. h } }
 
 pub grows_twice : (a b c : List (List ℕ)) → Grows a b → Grows b c → Grows a c
-grows_twice a b c p q = record {
-  more = p.more ++ q.more;
-  longer = q.longer ∙ (ap (λ l. l ++ q.more) p.longer ∙ append_assoc a p.more q.more);
-  distinct = λ h. q.distinct (p.distinct h);
-}
+grows_twice a b c p q = record { more = p.more ++ q.more; adds = adds_twice a p.more b q.more c p.adds q.adds }
 
 pub still_there : (a b : List (List ℕ)) (w : ℕ) (x : List ℕ) → Grows a b → slice_get a w ≡ Some x → slice_get b w ≡ Some x
-still_there a b w x g h = ap (λ l. slice_get l w) g.longer ∙ get_front a g.more w x h
+still_there a b w x g h = ap (λ l. slice_get l w) g.adds.longer ∙ get_front a g.more w x h
 
 -- Nodes
 
@@ -47,7 +45,7 @@ word_stays a b found (kind.Text t) g h = h
 word_stays a b found (kind.List is t) g h = h
 word_stays a b found (kind.Vector is) g h = h
 
-words_stay : (a b : List (List ℕ)) (found : List (Option ℕ)) (nodes : List Node) → Grows a b → AreWordsOf a found nodes
+pub words_stay : (a b : List (List ℕ)) (found : List (Option ℕ)) (nodes : List Node) → Grows a b → AreWordsOf a found nodes
     → AreWordsOf b found nodes
 words_stay a b found [] g h = h
 words_stay a b found (node ∷ nodes) g h =
@@ -93,7 +91,7 @@ all_named old now found all rest i e =
 
 -- Sources
 
-node_word : (names : List (List ℕ)) (found : List (Option ℕ)) (nodes : List Node) (id : ℕ) (node : Node)
+pub node_word : (names : List (List ℕ)) (found : List (Option ℕ)) (nodes : List Node) (id : ℕ) (node : Node)
     → AreWordsOf names found nodes → slice_get nodes id ≡ Some node → IsWordOf names (level_in (slice_get found id)) node.kind
 node_word names found [] id node h e = absurd (cc)
 node_word names found (n ∷ nodes) zero node h e =
@@ -105,7 +103,7 @@ node_word names found (n ∷ nodes) (suc id) node h e =
     let P : List (Option ℕ) → Type 0 = λ l. IsWordOf names (level_in (slice_get l (suc id))) node.kind in
     subst P (sym h.2) (node_word names h.1 nodes id node h.4 e)
 
-has_word : (names : List (List ℕ)) (found : List (Option ℕ)) (nodes : List Node) (id : ℕ) (d : Datum)
+pub has_word : (names : List (List ℕ)) (found : List (Option ℕ)) (nodes : List Node) (id : ℕ) (d : Datum)
     → AreWordsOf names found nodes → Stands nodes id d → HasWord names (level_in (slice_get found id)) d
 has_word names found nodes id (datum.Atomic p (Symbol x)) h e = node_word names found nodes id _ h e
 has_word names found nodes id (datum.Atomic p (Integer z)) h e = node_word names found nodes id _ h e
@@ -147,7 +145,10 @@ number_of keyword.Unquote = (18, refl)
 number_of keyword.Splice = (19, refl)
 
 name_at : (names : List (List ℕ)) (t : IsTable names) (w : ℕ) (k : Keyword) → keyword_at w ≡ Some k → slice_get names w ≡ Some (name_of k)
-name_at names t w k e = ap (λ l. slice_get l w) t.begins ∙ get_front keyword_names t.more w (name_of k) (keyword_there keyword_table w k e)
+name_at names t w k e =
+    ap (λ l. slice_get l w) t.begins
+    ∙ get_front table_names t.more w (name_of k)
+    (get_front keyword_names (known_names ++ operation_names) w (name_of k) (keyword_there keyword_table w k e))
 
 by_number : (names : List (List ℕ)) (t : IsTable names) (w : ℕ) (x : List ℕ) (j k : Option Keyword) → slice_get names w ≡ Some x
     → keyword_at w ≡ j → keyword_named x ≡ k → j ≡ k
@@ -161,10 +162,9 @@ by_number names t w x None (Some k) h p q =
     absurd (let g : None ≡ Some k = sym p ∙ (ap keyword_at same ∙ i.1) in cc)
 by_number names t w x None None h p q = refl
 
-pub source_named : (s : Source) (names : List (List ℕ)) → IsTable names → s.place ≡ None
-    → AreWordsOf names s.words.now s.nodes.now → IsNamed s
-source_named s names t own words = record {
-  own = own;
+pub source_named : (s : Source) (names : List (List ℕ)) → IsTable names → AreWordsOf names s.words.now s.nodes.now
+    → IsNamed s
+source_named s names t words = record {
   names = names;
   keywords = λ w x h. by_number names t w x (keyword_at w) (keyword_named x) h refl refl;
   differ = t.distinct;
@@ -174,8 +174,9 @@ source_named s names t own words = record {
 pub table_grows : (a b : List (List ℕ)) → IsTable a → Grows a b → IsTable b
 table_grows a b t g = record {
   more = t.more ++ g.more;
-  begins = g.longer ∙ (ap (λ l. l ++ g.more) t.begins ∙ append_assoc keyword_names t.more g.more);
-  distinct = g.distinct t.distinct;
+  begins = g.adds.longer ∙ (ap (λ l. l ++ g.more) t.begins ∙ append_assoc table_names t.more g.more);
+  distinct = g.adds.distinct t.distinct;
+  named = g.adds.named t.named;
 }
 
 pub no_nodes : (nodes : List Node) → length nodes ≡ 0 → nodes ≡ []

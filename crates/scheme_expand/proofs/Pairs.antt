@@ -8,12 +8,12 @@ use Rattle.datum_form.specs.Data.{Datum, Datum as datum, Items}
 use Rattle.datum_form.specs.Data.Items.{none, item}
 use Rattle.scheme_expand.specs.declared.source.Source.{Source}
 use Rattle.scheme_expand.specs.declared.binding.Bindings.{Bindings as Pairs}
-use Rattle.scheme_expand.specs.Forms.{Word}
+use Rattle.scheme_expand.specs.Forms.{Word, Exps, no_exp, exp}
 use Rattle.quasi_expand.specs.Shapes.{is_name, is_list, is_list_of, all_items}
 use Rattle.scheme_expand.specs.Grammar.{word, is_binding, bound_words, expr, exprs, bindings, binding_list}
 use Rattle.scheme_expand.specs.Faults.{in_exp, in_exps}
 use Rattle.scheme_expand.specs.Noted.{level_in}
-use Rattle.scheme_expand.specs.Shapes.{IsPair, AreBindings}
+use Rattle.scheme_expand.specs.Shapes.{IsPair, AreBindings, value_exps}
 use Rattle.scheme_expand.specs.Waiting.{named_datum, named_data, in_values, Reads, ReadAll, IsList}
 use Rattle.scheme_expand.proofs.Arms.{two_read}
 use Rattle.scheme_expand.proofs.Operators.{name_read}
@@ -100,6 +100,19 @@ no_list_bindings (datum.Vector p is) h = refl
 
 -- Pairs, one after another
 
+-- the expressions of some data before others
+abbrev exps_before : Items → Exps → Exps
+exps_before none es = es
+exps_before (item d ds) es = exp (expr d) (exps_before ds es)
+
+before_none : (ds : Items) → exps_before ds no_exp ≡ exprs ds
+before_none none = refl
+before_none (item d ds) = ap (exp (expr d)) (before_none ds)
+
+before_last : (ds : Items) (d : Datum) (es : Exps) → exps_before (joined ds (item d none)) es ≡ exps_before ds (exp (expr d) es)
+before_last none d es = refl
+before_last (item e ds) d es = ap (exp (expr e)) (before_last ds d es)
+
 pub record PairsRead (s : Source) (ds : Items) (names values rest : List ℕ) : Type 0 where
   pub words : List Word
   pub exps : Items
@@ -108,6 +121,7 @@ pub record PairsRead (s : Source) (ds : Items) (names values rest : List ℕ) : 
   pub valued : ReadAll s values exps
   pub read : ReadAll s rest left
   pub bound : bound_words (binding_list ds) ≡ words ++ bound_words (binding_list left)
+  pub values_are : value_exps (binding_list ds) ≡ exps_before exps (value_exps (binding_list left))
   pub faults : in_values (binding_list ds) ≡ in_exps (exprs exps) ++ in_values (binding_list left)
   pub test : all_items is_binding ds ≡ all_items is_binding left
 
@@ -121,6 +135,7 @@ no_pairs_read s ids names values ds h e f = record {
   valued = record { named = h.named; stand = f };
   read = h;
   bound = refl;
+  values_are = refl;
   faults = refl;
   test = refl;
 }
@@ -164,6 +179,9 @@ one_pair_read s ds names values names2 values2 rest others id name value i e p q
       bound =
           i.bound
           ∙ (ap (λ l. i.words ++ bound_words (binding_list l)) same ∙ sym (append_assoc i.words (v ∷ []) (bound_words bs)));
+      values_are =
+          i.values_are
+          ∙ (ap (λ l. exps_before i.exps (value_exps (binding_list l))) same ∙ sym (before_last i.exps n.exp (value_exps bs)));
       faults =
           i.faults
           ∙ (ap (λ l. in_exps (exprs i.exps) ++ in_values (binding_list l)) same
@@ -198,6 +216,9 @@ all_pairs_read s d ids names values rest pairs l i e p q =
         names = subst P (sym p) (subst R (sym all) i.named);
         items = i.exps;
         values = subst Q (sym q) i.valued;
+        exps =
+            ap value_exps same
+            ∙ (i.values_are ∙ (ap (λ x. exps_before i.exps (value_exps (binding_list x))) over ∙ before_none i.exps));
         same =
             ap in_values same
             ∙ (i.faults ∙ (ap (λ x. in_exps (exprs i.exps) ++ in_values (binding_list x)) over ∙ append-nil (in_exps (exprs i.exps))));

@@ -35,7 +35,7 @@ or_true : (b : Bool) → (b || true) ≡ true
 or_true true = refl
 or_true false = refl
 
-word_listed : (names : Names) (w : ℕ) (y : Bor (List ℕ)) → slice_get names w ≡ Some y → has_name (all_names names) y.now ≡ true
+pub word_listed : (names : Names) (w : ℕ) (y : Bor (List ℕ)) → slice_get names w ≡ Some y → has_name (all_names names) y.now ≡ true
 word_listed [] w y h = absurd (none_some y h)
   where
     none_some : (y : Bor (List ℕ)) → None ≡ Some y → ⊥

@@ -8,8 +8,14 @@ use Rattle.draft_form.specs.Drafts.{Drafts, all_parts}
 use Rattle.draft_form.specs.Drawn.{word_name, Names, AllDrawn}
 use Rattle.draft_form.specs.Numbered.{trees_with}
 use Rattle.draft_form.specs.Numbers.{constants, laid_list}
+use Rattle.scheme_expand.specs.declared.answer.Forms.{Forms as Expansion}
+use Rattle.scheme_expand.specs.declared.answer.Program.{Program as Own}
+use Rattle.scheme_expand.specs.declared.answer.Texts.{Texts}
 use Rattle.scheme_expand.specs.declared.assemble.Whole.{Whole}
+use Rattle.scheme_expand.specs.declared.source.Source.{Source}
+use Rattle.scheme_expand.specs.declared.words.Words.{Words}
 use Rattle.scheme_expand.specs.ByWord.{all_names, HaveOneWord, Marks}
+use Rattle.scheme_expand.specs.Naming.{name_list, AreWordsOf, HasHelpers, IsTable}
 use Rattle.scheme_expand.specs.Programs.{after_library, as_list, library_with, started}
 use Rattle.scheme_expand.specs.Rewriting.{has_name}
 use Rattle.scheme_expand.specs.Symbols.{AreSpelled}
@@ -47,6 +53,29 @@ pub record IsWhole (own : List (List ℕ)) (definitions forms : Drafts) (w : Who
   pub words : HaveOneWord (names_of w) (all_names (names_of w))
   pub listed : (n : ℕ) → nat_lt n (length (names_of w)) ≡ has_name (all_names (names_of w)) (word_name (names_of w) n)
 
--- the definitions that are reached, the own variables, and the forms
+-- the definitions of these names that are reached, the own variables, and the forms
+abbrev pub whole_with : (own : List (List ℕ)) → (definitions forms : Drafts) → (defined : List (List ℕ)) → Drafts
+whole_with own definitions forms defined = after_library (library_with defined (as_list definitions)) (started own forms)
+
 abbrev pub whole_of : (own : List (List ℕ)) → (definitions forms : Drafts) → Whole → Drafts
-whole_of own definitions forms w = after_library (library_with (defined_in w) (as_list definitions)) (started own forms)
+whole_of own definitions forms w = whole_with own definitions forms (defined_in w)
+
+-- what the library and the program were expanded to is what a core is made of
+pub record AreJoined (own : List (List ℕ)) (definitions forms : Drafts) (t : Texts) (l : Expansion) (ns : List ℕ) (p : Own) : Type 0 where
+  pub library : AllDrawn t.words.now.names.keys t.library.nodes.now l.drafts l.forms.items definitions
+  pub program : AllDrawn t.words.now.names.keys t.program.nodes.now p.forms.drafts p.forms.forms.items forms
+  pub library_words : AreSpelled t.words.now.names.keys t.library.nodes.now t.library.words.now
+  pub program_words : AreSpelled t.words.now.names.keys t.program.nodes.now t.program.words.now
+  pub defined : HaveOneWord t.words.now.names.keys (map (word_name t.words.now.names.keys) ns)
+  pub count : length ns ≡ length l.forms.items
+  pub own_words : HaveOneWord t.words.now.names.keys own
+  pub own_marks : Marks t.words.now.names.keys own p.own.items
+  pub words : HaveOneWord t.words.now.names.keys (all_names t.words.now.names.keys)
+  pub listed : (n : ℕ) → nat_lt n (length t.words.now.names.keys) ≡ has_name (all_names t.words.now.names.keys) (word_name t.words.now.names.keys n)
+
+-- the names of two texts have words, in a table
+pub record AreNumbered (w : Words) (library program : Source) : Type 0 where
+  pub table : IsTable (name_list w)
+  pub helpers : HasHelpers (name_list w) w.helpers
+  pub definitions : AreWordsOf (name_list w) library.words.now library.nodes.now
+  pub forms : AreWordsOf (name_list w) program.words.now program.nodes.now

@@ -1,5 +1,6 @@
 -- What is known of names by the numbers of their words.
-use Rattle.std.specs.Prelude.{ℕ, ◌≡◌, List, [], ◌∷◌, ◌++◌, map, slice_get, slice_set, Option, Some, None, Bool, true, false, not, ◌&&◌}
+use Rattle.std.specs.Prelude.{ℕ, ◌≡◌, List, [], ◌∷◌, ◌++◌, map, slice_get, slice_set, Option, Some, None, Bool, true, false, not, ◌&&◌, ◌||◌, if◌then◌else◌}
+use Rattle.datum_form.specs.Data.{Datum, Items}
 use Rattle.prelude_text.specs.Closure.{closure}
 use Rattle.core_form.specs.declared.program.Node.{Node}
 use Rattle.draft_form.specs.declared.draft.Variable.{Variable}
@@ -7,8 +8,10 @@ use Rattle.draft_form.specs.declared.draft.Variable.TheVariants as variable
 use Rattle.draft_form.specs.Drafts.{Name, Drafts, Part, parts, Held, ListsSymbols, Referred, Changed}
 use Rattle.draft_form.specs.Drawn.{word_name, Names}
 use Rattle.scheme_expand.specs.declared.first.Firsts.{Firsts}
+use Rattle.scheme_expand.specs.Forms.{no_binding}
+use Rattle.scheme_expand.specs.Grammar.{definitions_before, forms, is_define}
 use Rattle.scheme_expand.specs.Order.{variable_at}
-use Rattle.scheme_expand.specs.Programs.{as_list, libraries, number_of, numbers_of, those_of, unlisted}
+use Rattle.scheme_expand.specs.Programs.{as_list, binding_names, defined as names_defined, libraries, number_of, numbers_of, those_of, unlisted}
 use Rattle.scheme_expand.specs.Rewriting.{has_name}
 
 abbrev pub all_names : Names → List (List ℕ)
@@ -23,6 +26,16 @@ flag_of (Some b) = b
 abbrev pub flag_at : List Bool → ℕ → Bool
 flag_at flags w = flag_of (slice_get flags w)
 
+-- the flags of one list that stand where another has this one
+abbrev pub flags_where : (wanted : Bool) → (all some : List Bool) → List Bool
+flags_where wanted [] some = []
+flags_where wanted (f ∷ all) [] = []
+flags_where wanted (f ∷ all) (g ∷ some) = (f && (if wanted then g else not g)) ∷ flags_where wanted all some
+
+abbrev pub one_flag : List Bool → Bool
+one_flag [] = false
+one_flag (f ∷ flags) = f || one_flag flags
+
 -- each of these names is the name of one word at most
 abbrev pub HaveOneWord : Names → List (List ℕ) → Type 0
 HaveOneWord names listed =
@@ -31,6 +44,11 @@ HaveOneWord names listed =
 -- the words that are marked are those of these names
 abbrev pub Marks : Names → List (List ℕ) → List Bool → Type 0
 Marks names listed flags = (w : ℕ) → flag_at flags w ≡ has_name listed (word_name names w)
+
+-- each of these names has a word, and none is empty
+pub record AreListed (names : Names) (listed : List (List ℕ)) : Type 0 where
+  pub words : (x : List ℕ) → has_name listed x ≡ true → (w : ℕ) × (word_name names w ≡ x)
+  pub named : has_name listed [] ≡ false
 
 -- of a text of names those that are listed are taken, each where it first stands
 pub record AreTaken (names : Names) (listed text : List (List ℕ)) (f : Firsts) : Type 0 where
@@ -71,6 +89,17 @@ library_words (v ∷ vs) = library_words vs
 abbrev pub joined : {A : Type 0} → Option (Option A) → Option A
 joined None = None
 joined (Some o) = o
+
+-- a definition defines the name of a word
+pub record DefinesWord (names : Names) (word : ℕ) (d : Datum) : Type 0 where
+  pub define : is_define d ≡ true
+  pub name : binding_names (definitions_before d no_binding) ≡ word_name names word ∷ []
+  pub listed : has_name (all_names names) (word_name names word) ≡ true
+
+-- data define the names of these words, none of which is empty where no word's name is
+pub record AreDefined (names : Names) (words : List ℕ) (ds : Items) : Type 0 where
+  pub are : map (word_name names) words ≡ names_defined (forms ds)
+  pub named : has_name (all_names names) [] ≡ false → has_name (names_defined (forms ds)) [] ≡ false
 
 -- by word, the number of the first definition of its name
 abbrev pub IsIndex : Names → List (List ℕ) → List (Option ℕ) → Type 0

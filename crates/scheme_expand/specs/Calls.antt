@@ -2,7 +2,7 @@
 --
 -- They are what the procedure does with so many operands. Where that evaluates an operand not once, or not
 -- in its turn, the operands are bound to fresh variables first, from left to right.
-use Rattle.std.specs.Prelude.{ℕ, suc, pos, nat_eq, List, [], ◌∷◌, length, Option, Some, None, Bool, true, false, if◌then◌else◌, codes}
+use Rattle.std.specs.Prelude.{ℕ, ℤ, suc, pos, nat_eq, List, [], ◌∷◌, length, Option, Some, None, Bool, true, false, if◌then◌else◌, codes}
 use Rattle.std.specs.Str.{bytes_eq}
 use Rattle.scheme_base.specs.declared.pos.Pos.{Pos}
 use Rattle.scheme_base.specs.declared.op.Op.{Op}
@@ -44,9 +44,9 @@ folded p o e [] = e
 folded p o e (t ∷ ts) = folded p o (Prim p o (two e t)) ts
 
 -- `+` and `*`, which give this number without operands
-abbrev pub sum : Pos → Op → (nothing : ℕ) → List Draft → Draft
-sum p o n [] = Const p (constant.Integer (pos n))
-sum p o n (t ∷ []) = Prim p o (two (Const p (constant.Integer (pos n))) t)
+abbrev pub sum : Pos → Op → (nothing : ℤ) → List Draft → Draft
+sum p o n [] = Const p (constant.Integer n)
+sum p o n (t ∷ []) = Prim p o (two (Const p (constant.Integer n)) t)
 sum p o n (t ∷ ts) = folded p o t ts
 
 -- `-` of at least one operand
@@ -77,7 +77,7 @@ listed p (t ∷ ts) = Prim p op.Cons (two t (listed p ts))
 
 pub data Way : Type 0 where
   -- an operation of two operands, of which the number is what it gives without operands
-  Sums : Op → (nothing : ℕ) → Way
+  Sums : Op → (nothing : ℤ) → Way
   Differs : Way
   Compares : Comparison → Way
   Lists : Way
@@ -137,8 +137,8 @@ public_calls p k es =
     ∷ form (codes "peek-char") (done op.PeekChar) ∷ form (codes "write-char") (done op.WriteChar)
     ∷ form (codes "call-with-current-continuation") (done op.CallCC) ∷ form (codes "apply") (done op.Apply)
     ∷ form (codes "not") (negated p es)
-    ∷ form (codes "+") (at_once p op.Add es (first (Sums op.Add 0)))
-    ∷ form (codes "*") (at_once p op.Multiply es (first (Sums op.Multiply 1)))
+    ∷ form (codes "+") (at_once p op.Add es (first (Sums op.Add (pos 0))))
+    ∷ form (codes "*") (at_once p op.Multiply es (first (Sums op.Multiply (pos 1))))
     ∷ form (codes "-") (at_once p op.Subtract es (first Differs))
     ∷ form (codes "=") (at_once p op.Equals es (first (Compares Equal)))
     ∷ form (codes "<") (at_once p op.Less es (first (Compares Less)))
@@ -159,9 +159,14 @@ abbrev pub named_operation : Pos → List ℕ → Drafts → List Op → Option 
 named_operation p x es [] = None
 named_operation p x es (o ∷ os) = if bytes_eq x (name_of o) then operation p o es else named_operation p x es os
 
+-- the list of the program's literal symbols, which takes no operand
+abbrev pub symbol_call : Pos → Drafts → Option Draft
+symbol_call p none = Some (Symbols p)
+symbol_call p es = None
+
 abbrev pub library_call : Pos → List ℕ → Drafts → Option Draft
 library_call p x es =
-    if bytes_eq x (codes "%symbols") then Some (Symbols p) else named_operation p x es operations
+    if bytes_eq x (codes "%symbols") then symbol_call p es else named_operation p x es operations
 
 -- What a call of a variable of the library becomes, if not a call: `public` where the program makes it.
 abbrev pub integrated : Pos → (level : ℕ) → List ℕ → Drafts → Option Draft

@@ -5,6 +5,7 @@ pub mod Laws
 pub mod Programs
 pub mod Rewriting
 pub mod Calls
+pub mod Copied
 pub mod Faults
 pub mod Naming
 pub mod Noted
@@ -14,3 +15,11 @@ pub mod Assembled
 pub mod Order
 pub mod ByWord
 pub mod Symbols
+pub mod Views
+pub mod Making
+pub mod Viewed
+pub mod Rewritten
+pub mod KnownNames
+pub mod Stacks
+pub mod Holding
+pub mod Putting

@@ -160,7 +160,8 @@ program_scope library own = record { side = OfProgram (public_names library.name
 
 -- the public names that a program defines at top level, or assigns where nothing else binds them
 abbrev pub own_names : Library → Forms → List (List ℕ)
-own_names library fs = changed (all_parts (form_cores fs (program_scope library [])))
+own_names library fs =
+    those_of (public_names library.names) (changed (all_parts (form_cores fs (program_scope library []))))
 
 -- a variable of the program starts with the value of the library's
 abbrev pub starts : List (List ℕ) → Drafts
@@ -220,9 +221,3 @@ abbrev pub Answers : Items → Result (Program Var) FormErr → Type 0
 Answers ds (Ok core) = Expands ds core
 Answers ds (Err (Broken p n)) = FormFault ds p n
 Answers ds (Err NoMemory) = Unit {0}
-
--- what is answered is so, as far as it is a fault: the fault of the data, or else they have none
-abbrev pub HasFault : Items → Result (Program Var) FormErr → Type 0
-HasFault ds (Ok core) = faults ds ≡ []
-HasFault ds (Err (Broken p n)) = FormFault ds p n
-HasFault ds (Err NoMemory) = Unit {0}

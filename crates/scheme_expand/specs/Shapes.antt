@@ -16,7 +16,7 @@ use Rattle.scheme_expand.specs.declared.clause.Clause.{Clause}
 use Rattle.scheme_expand.specs.declared.clause.Clause.TheVariants as which
 use Rattle.scheme_expand.specs.declared.words.Keyword.{Keyword}
 use Rattle.scheme_expand.specs.declared.words.Keyword.TheVariants as keyword
-use Rattle.scheme_expand.specs.Forms.{Word, Exp, Bindings, Body, Clauses, Steps, no_binding, binding, broken, Wrong, Let, Named, Cond, Of, clause, value, passing, otherwise}
+use Rattle.scheme_expand.specs.Forms.{Word, Exp, Exps, Bindings, Body, Clauses, Steps, no_step, fixed, stepped, no_exp, exp, no_binding, binding, broken, Wrong, Let, Named, Cond, Of, clause, value, passing, otherwise}
 use Rattle.quasi_expand.specs.Shapes.{is_name, is_word, all_items, is_list_of, are_clauses}
 use Rattle.scheme_expand.specs.Grammar.{Check, rule, are_names, word_of, is_define, is_definition, is_no_body, is_binding, is_clause, clauses, twice, bound_words, step_words, defines_twice, checked, procedure, expr, exprs, bindings, body, definitions_before, each_definition, after_bindings, clause_before}
 use Rattle.scheme_expand.specs.Faults.{least, in_exps, in_words, in_steps}
@@ -28,6 +28,11 @@ use Rattle.scheme_expand.specs.Waiting.{Reads, ReadAll, named_datum, named_data,
 abbrev pub defines : Keyword → Bool
 defines keyword.Define = true
 defines k = false
+
+-- and lambda expressions with this one
+abbrev pub begins_lambda : Keyword → Bool
+begins_lambda keyword.Lambda = true
+begins_lambda k = false
 
 -- Lists
 
@@ -155,11 +160,18 @@ pub record IsPair (s : Source) (name value : ℕ) (d : Datum) : Type 0 where
   pub named : Reads s name (named_datum word)
   pub valued : Reads s value exp
 
+-- the expressions of bindings
+abbrev pub value_exps : Bindings → Exps
+value_exps no_binding = no_exp
+value_exps (binding p w e bs) = exp e (value_exps bs)
+value_exps (broken p n bs) = value_exps bs
+
 -- names and values of bindings
 pub record AreBindings (s : Source) (pairs : Pairs) (bs : Bindings) : Type 0 where
   pub names : ReadAll s pairs.names.items (named_data (bound_words bs))
   pub items : Items
   pub values : ReadAll s pairs.values.items items
+  pub exps : value_exps bs ≡ exprs items
   pub same : in_values bs ≡ in_exps (exprs items)
 
 -- the rules of a form that has bindings and a body, where the names are bound together or not
@@ -223,6 +235,16 @@ those [] = []
 those (None ∷ ids) = those ids
 those (Some id ∷ ids) = id ∷ those ids
 
+-- what variables are first, and what they are in the next turn, where that is written
+abbrev pub AreSteps : Source → (inits : List ℕ) → (steps : List (Option ℕ)) → Steps → Type 0
+AreSteps s ids os no_step = (ids ≡ []) × (os ≡ [])
+AreSteps s ids os (fixed w e ss) =
+    (id : ℕ) × (is : List ℕ) × (ps : List (Option ℕ)) × (ids ≡ id ∷ is) × (os ≡ None ∷ ps) × (d : Datum)
+    × Reads s id d × (e ≡ expr d) × AreSteps s is ps ss
+AreSteps s ids os (stepped w e f ss) =
+    (id : ℕ) × (is : List ℕ) × (ps : List (Option ℕ)) × (next : ℕ) × (ids ≡ id ∷ is) × (os ≡ Some next ∷ ps)
+    × (d : Datum) × Reads s id d × (e ≡ expr d) × (g : Datum) × Reads s next g × (f ≡ expr g) × AreSteps s is ps ss
+
 -- the names, what they are first, and what they are in the next turn
 pub record AreTurns (s : Source) (turns : Turns) (ss : Steps) : Type 0 where
   pub names : ReadAll s turns.names.items (named_data (step_words ss))
@@ -230,5 +252,6 @@ pub record AreTurns (s : Source) (turns : Turns) (ss : Steps) : Type 0 where
   pub next : Items
   pub inits : ReadAll s turns.inits.items first
   pub steps : ReadAll s (those turns.steps.items) next
+  pub are : AreSteps s turns.inits.items turns.steps.items ss
   pub same : least (in_steps ss)
       ≡ earlier (least (in_words (step_words ss))) (earlier (least (in_exps (exprs first))) (least (in_exps (exprs next))))

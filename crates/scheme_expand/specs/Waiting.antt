@@ -83,9 +83,8 @@ abbrev pub HasWord : (names : List (List ℕ)) → Option ℕ → Datum → Type
 HasWord names found (datum.Atomic p (Symbol x)) = (w : ℕ) × (found ≡ Some w) × (slice_get names w ≡ Some x)
 HasWord names found d = found ≡ None
 
--- data at their own places, with the numbers of their names
+-- data with the numbers of their names
 pub record IsNamed (s : Source) : Type 0 where
-  pub own : s.place ≡ None
   pub names : List (List ℕ)
   pub keywords : (w : ℕ) (x : List ℕ) → slice_get names w ≡ Some x → keyword_at w ≡ keyword_named x
   pub differ : (v w : ℕ) (x : List ℕ) → slice_get names v ≡ Some x → slice_get names w ≡ Some x → v ≡ w

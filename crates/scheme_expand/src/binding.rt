@@ -1,22 +1,28 @@
 //! The forms that bind variables (R4RS 4.2.2 and 4.2.4).
 
-ghost use Rattle.std.specs.Prelude.{◌≡◌, ◌++◌, ◌∷◌, [], None, OnOk, IfOk, MatchOption, true, false};
+ghost use Rattle.std.specs.Prelude.{ℕ, ◌≡◌, ◌≤◌, ◌++◌, ◌∷◌, List as Seq, [], length, map, None, OnOk, IfOk, MatchOption, true, false};
 ghost use Rattle.datum_form.specs.Data.{Datum, Items};
 ghost use Rattle.datum_form.specs.Data.Items.{item};
-ghost use Rattle.scheme_expand.specs.Forms.{Word, Exp, Bindings as Bound, Steps};
+ghost use Rattle.scheme_expand.specs.Forms.{Word, Exp, Bindings as Bound, Steps, Wrong, Do};
 ghost use Rattle.quasi_expand.specs.Shapes.{all_items, is_list_of, is_step};
-ghost use Rattle.scheme_expand.specs.Grammar.{bindings as bindings_in, twice as some_twice, is_binding, checked, let_form, do_form, step_list, expr as expression, exprs as all_exprs};
+ghost use Rattle.scheme_expand.specs.Grammar.{step_words, bindings as bindings_in, twice as some_twice, is_binding, checked, let_form, let_star_form, letrec_form, do_form, step_list, expr as expression, exprs as all_exprs};
 ghost use Rattle.scheme_expand.specs.Faults.{least, in_exp, in_exps, in_steps};
+ghost use Rattle.scheme_expand.specs.Making.{from_level, AreRight, IsRight};
+ghost use Rattle.scheme_expand.specs.Putting.{expr_steps, next_step, next_steps, nest_steps, no_name_steps, result_steps};
+ghost use Rattle.scheme_expand.specs.Rewriting.{are_lambdas as are_procedures, variables as variables_of};
+ghost use Rattle.scheme_expand.specs.Viewed.{IsView, Puts, Turns as TurnsTo};
+ghost use Rattle.scheme_expand.specs.Views.{Context, View, height, seen};
+ghost use Rattle.draft_form.specs.Drawn.{name_of};
 ghost use Rattle.scheme_expand.specs.Waiting.{Reads, ReadAll, Adds, Keeps, named_datum};
-ghost use Rattle.scheme_expand.specs.Shapes.{IsPair, AreBindings, AreBound, together_words, bound_checks, bound_form, named_form, AreTurns, those};
+ghost use Rattle.scheme_expand.specs.Shapes.{IsPair, AreBindings, AreBound, together_words, bound_checks, bound_form, named_form, AreTurns, those, value_exps};
 
 use crate::body::{Body, read_body};
 use crate::expander::Expander;
 use crate::fault::Rule;
 use crate::formals::twice;
+use crate::scope::above;
 use crate::source::Source;
 use crate::step::Step;
-use crate::words::Keyword;
 use draft_form::Variable;
 use quasi_expand::{DoLoop, do_binding, read_do};
 use scheme_base::Pos;
@@ -89,7 +95,8 @@ impl<'a> Expander<'a> {
         operands: &'a [u32],
         together: bool,
     ) -> Result<Option<(Bindings, Body<'a>)>, AllocError>
-        ensures { IfOk result (λ found. (ds : Items) → ReadAll self.old.source operands.now ds → MatchOption found ((e : Exp) → Adds self.old self.new (least (in_exp (checked pos (bound_checks together ds) e)))) (λ bound. Keeps self.old self.new × AreBound self.old.source together ds bound.0 bound.1)) }
+        ensures fault { IfOk result (λ found. (ds : Items) → ReadAll self.old.source operands.now ds → MatchOption found ((e : Exp) → Adds self.old self.new (least (in_exp (checked pos (bound_checks together ds) e)))) (λ bound. Keeps self.old self.new × AreBound self.old.source together ds bound.0 bound.1)) }
+        ensures core { IfOk result (λ found. MatchOption found ((ds : Items) (e : Exp) → ReadAll self.old.source operands.now ds → (n : ℕ) × (checked pos (bound_checks together ds) e ≡ Wrong pos n)) (λ bound. Puts self.old self.new [])) }
     {
         let Some((bindings, body)) = operands.split_first() else {
             self.broken(pos, Rule::Body)?;
@@ -116,7 +123,8 @@ impl<'a> Expander<'a> {
 
     /// Expressions, one after another.
     fn push_exprs(&mut self, exprs: &[u32]) -> Result<(), AllocError>
-        ensures { OnOk result ((ds : Items) → ReadAll self.old.source exprs.now ds → Adds self.old self.new (least (in_exps (all_exprs ds)))) }
+        ensures fault { OnOk result ((ds : Items) → ReadAll self.old.source exprs.now ds → Adds self.old self.new (least (in_exps (all_exprs ds)))) }
+        ensures core { OnOk result (Puts self.old self.new (expr_steps exprs.now)) }
     {
         let mut rest = exprs;
         while let Some((last, others)) = rest.split_last() {
@@ -128,7 +136,8 @@ impl<'a> Expander<'a> {
 
     /// `let`, with a name or without.
     pub(crate) fn any_let(&mut self, pos: Pos, operands: &'a [u32]) -> Result<(), AllocError>
-        ensures { OnOk result ((ds : Items) → ReadAll self.old.source operands.now ds → Adds self.old self.new (least (in_exp (let_form pos ds)))) }
+        ensures fault { OnOk result ((ds : Items) → ReadAll self.old.source operands.now ds → Adds self.old self.new (least (in_exp (let_form pos ds)))) }
+        ensures core { OnOk result ((c : Context) (v : View) (ds : Items) → IsView c self.old v → ReadAll c.source operands.now ds → IsRight (let_form pos ds) → TurnsTo c self.old self.new (seen c (let_form pos ds) v)) }
     {
         let Some((name, rest)) = operands.split_first() else {
             return self.broken(pos, Rule::Body);
@@ -140,7 +149,8 @@ impl<'a> Expander<'a> {
     }
 
     fn plain_let(&mut self, pos: Pos, operands: &'a [u32]) -> Result<(), AllocError>
-        ensures { OnOk result ((ds : Items) → ReadAll self.old.source operands.now ds → Adds self.old self.new (least (in_exp (bound_form true pos ds)))) }
+        ensures fault { OnOk result ((ds : Items) → ReadAll self.old.source operands.now ds → Adds self.old self.new (least (in_exp (bound_form true pos ds)))) }
+        ensures core { OnOk result ((c : Context) (v : View) (ds : Items) → IsView c self.old v → ReadAll c.source operands.now ds → IsRight (bound_form true pos ds) → TurnsTo c self.old self.new (seen c (bound_form true pos ds) v)) }
     {
         let Some((bindings, body)) = self.bindings(pos, operands, true)? else {
             return Ok(());
@@ -155,7 +165,8 @@ impl<'a> Expander<'a> {
 
     /// `((letrec ((name (lambda (x ...) body))) name) e ...)`
     fn named_let(&mut self, pos: Pos, name: u32, operands: &'a [u32]) -> Result<(), AllocError>
-        ensures { OnOk result ((w : Word) (ds : Items) → Reads self.old.source name (named_datum w) → ReadAll self.old.source operands.now ds → Adds self.old self.new (least (in_exp (named_form pos w ds)))) }
+        ensures fault { OnOk result ((w : Word) (ds : Items) → Reads self.old.source name (named_datum w) → ReadAll self.old.source operands.now ds → Adds self.old self.new (least (in_exp (named_form pos w ds)))) }
+        ensures core { OnOk result ((c : Context) (v : View) (w : Word) (ds : Items) → IsView c self.old v → Reads c.source name (named_datum w) → ReadAll c.source operands.now ds → IsRight (named_form pos w ds) → TurnsTo c self.old self.new (seen c (named_form pos w ds) v)) }
     {
         let Some((bindings, body)) = self.bindings(pos, operands, true)? else {
             return Ok(());
@@ -164,6 +175,8 @@ impl<'a> Expander<'a> {
         let word = self.name(name)?;
         self.maker.scope.bind(word)?;
         let inner = self.maker.scope.level()?;
+        self.maker
+            .add(Step::Reference(pos, Variable::Local { level, word }))?;
         self.enter(&bindings.names)?;
         self.wait(&[Step::Call(pos, bindings.values.len())])?;
         self.push_exprs(&bindings.values)?;
@@ -171,13 +184,13 @@ impl<'a> Expander<'a> {
             Step::Letrec(pos, level, true),
             Step::Lambda(pos, inner, false),
         ])?;
-        self.body(pos, &body)?;
-        self.wait(&[Step::Reference(pos, Variable::Local { level, word })])
+        self.body(pos, &body)
     }
 
     /// Nested `let`s of one variable each, or one of none.
     pub(crate) fn let_star(&mut self, pos: Pos, operands: &'a [u32]) -> Result<(), AllocError>
-        ensures { OnOk result ((ds : Items) → ReadAll self.old.source operands.now ds → Adds self.old self.new (least (in_exp (bound_form false pos ds)))) }
+        ensures fault { OnOk result ((ds : Items) → ReadAll self.old.source operands.now ds → Adds self.old self.new (least (in_exp (bound_form false pos ds)))) }
+        ensures core { OnOk result ((c : Context) (v : View) (ds : Items) → IsView c self.old v → ReadAll c.source operands.now ds → IsRight (let_star_form pos ds) → TurnsTo c self.old self.new (seen c (let_star_form pos ds) v)) }
     {
         let Some((bindings, body)) = self.bindings(pos, operands, false)? else {
             return Ok(());
@@ -192,7 +205,8 @@ impl<'a> Expander<'a> {
 
     /// A procedure without variables, where there are none.
     fn no_names(&mut self, pos: Pos, names: &[u32], level: u32) -> Result<(), AllocError>
-        ensures { OnOk result (Adds self.old self.new None) }
+        ensures fault { OnOk result (Adds self.old self.new None) }
+        ensures core { OnOk result (Puts self.old self.new (no_name_steps pos names.now level)) }
     {
         if names.is_empty() {
             return self.wait(&[Step::Call(pos, 0), Step::Lambda(pos, level, false)]);
@@ -208,7 +222,8 @@ impl<'a> Expander<'a> {
         values: &[u32],
         level: u32,
     ) -> Result<(), AllocError>
-        ensures { OnOk result ((ds : Items) → ReadAll self.old.source values.now ds → Adds self.old self.new (least (in_exps (all_exprs ds)))) }
+        ensures fault { OnOk result ((ds : Items) → ReadAll self.old.source values.now ds → Adds self.old self.new (least (in_exps (all_exprs ds)))) }
+        ensures core { OnOk result (Puts self.old self.new (nest_steps pos level variables.now values.now)) }
     {
         let mut next = level;
         let mut later = variables;
@@ -222,7 +237,7 @@ impl<'a> Expander<'a> {
                 Step::Expr(*value),
                 Step::Leave(next),
             ])?;
-            next = next.saturating_add(1);
+            next = above(next, 1)?;
             later = inner;
             rest = others;
         }
@@ -230,7 +245,8 @@ impl<'a> Expander<'a> {
     }
 
     pub(crate) fn letrec(&mut self, pos: Pos, operands: &'a [u32]) -> Result<(), AllocError>
-        ensures { OnOk result ((ds : Items) → ReadAll self.old.source operands.now ds → Adds self.old self.new (least (in_exp (bound_form true pos ds)))) }
+        ensures fault { OnOk result ((ds : Items) → ReadAll self.old.source operands.now ds → Adds self.old self.new (least (in_exp (bound_form true pos ds)))) }
+        ensures core { OnOk result ((c : Context) (v : View) (ds : Items) → IsView c self.old v → ReadAll c.source operands.now ds → IsRight (letrec_form pos ds) → TurnsTo c self.old self.new (seen c (letrec_form pos ds) v)) }
     {
         let Some((bindings, body)) = self.bindings(pos, operands, true)? else {
             return Ok(());
@@ -247,18 +263,23 @@ impl<'a> Expander<'a> {
     }
 
     /// Whether these are lambda expressions.
-    fn are_lambdas(&self, exprs: &[u32]) -> bool {
-        for expr in exprs {
-            if self.source.head(*expr) != Some(Keyword::Lambda) {
+    fn are_lambdas(&self, exprs: &[u32]) -> bool
+        ensures { (bs : Bound) (ds : Items) → ReadAll self.now.source exprs.now ds → value_exps bs ≡ all_exprs ds → AreRight (all_exprs ds) → result ≡ are_procedures bs }
+    {
+        let mut rest = exprs;
+        while let Some((first, others)) = rest.split_first() {
+            if !self.source.is_lambda(*first) {
                 return false;
             }
+            rest = others;
         }
         true
     }
 
     /// `(do (binding ..) (test result ..) command ..)`, with these items.
     pub(crate) fn do_loop(&mut self, pos: Pos, items: &'a [u32]) -> Result<(), AllocError>
-        ensures { OnOk result ((d : Datum) (ds : Items) → ReadAll self.old.source items.now (item d ds) → Adds self.old self.new (least (in_exp (do_form pos ds)))) }
+        ensures fault { OnOk result ((d : Datum) (ds : Items) → ReadAll self.old.source items.now (item d ds) → Adds self.old self.new (least (in_exp (do_form pos ds)))) }
+        ensures core { OnOk result ((c : Context) (v : View) (d : Datum) (ds : Items) → IsView c self.old v → ReadAll c.source items.now (item d ds) → IsRight (do_form pos ds) → TurnsTo c self.old self.new (seen c (do_form pos ds) v)) }
     {
         let Some(parts) = read_do(self.source.nodes, items) else {
             return self.broken(pos, Rule::Do);
@@ -272,21 +293,26 @@ impl<'a> Expander<'a> {
 
     /// A procedure without a name in the text, which calls itself with the values for the next turn.
     fn repeat(&mut self, pos: Pos, parts: DoLoop<'a>, turns: &Turns) -> Result<(), AllocError>
-        ensures { OnOk result ((ss : Steps) (t : Datum) (rs cs : Items) → AreTurns self.old.source turns.now ss → Reads self.old.source parts.entry.test t → ReadAll self.old.source parts.entry.results.now rs → ReadAll self.old.source parts.entry.commands.now cs → Adds self.old self.new (least (in_steps ss ++ (in_exp (expression t) ++ (in_exps (all_exprs rs) ++ in_exps (all_exprs cs)))))) }
+        ensures fault { OnOk result ((ss : Steps) (t : Datum) (rs cs : Items) → AreTurns self.old.source turns.now ss → Reads self.old.source parts.entry.test t → ReadAll self.old.source parts.entry.results.now rs → ReadAll self.old.source parts.entry.commands.now cs → Adds self.old self.new (least (in_steps ss ++ (in_exp (expression t) ++ (in_exps (all_exprs rs) ++ in_exps (all_exprs cs)))))) }
+        ensures core { OnOk result ((c : Context) (v : View) (ss : Steps) (t : Datum) (rs cs : Items) → IsView c self.old v → AreTurns c.source turns.now ss → Reads c.source parts.entry.test t → ReadAll c.source parts.entry.results.now rs → ReadAll c.source parts.entry.commands.now cs → some_twice (step_words ss) ≡ false → IsRight (Do pos ss (expression t) (all_exprs rs) (all_exprs cs)) → TurnsTo c self.old self.new (seen c (Do pos ss (expression t) (all_exprs rs) (all_exprs cs)) v)) }
     {
         let level = self.maker.scope.level()?;
         self.maker.scope.bind_fresh()?;
         let inner = self.maker.scope.level()?;
         self.enter(&turns.names)?;
         let again = Step::Reference(pos, Variable::Fresh { level });
-        self.wait(&[Step::Call(pos, turns.names.len())])?;
+        let count = turns.names.len();
+        let Some(together) = parts.commands.len().checked_add(1) else {
+            return Err(AllocError);
+        };
+        self.wait(&[Step::Call(pos, count)])?;
         self.push_exprs(&turns.inits)?;
         self.wait(&[
-            Step::Letrec(pos, level, true),
+            Step::Loop(pos, level),
             Step::Lambda(pos, inner, false),
             Step::If(pos),
-            Step::Sequence(pos, parts.commands.len().saturating_add(1)),
-            Step::Call(pos, turns.names.len()),
+            Step::Sequence(pos, together),
+            Step::Call(pos, count),
         ])?;
         self.next_values(pos, &turns.steps, inner)?;
         self.wait(&[again, Step::Exprs(parts.commands)])?;
@@ -296,7 +322,8 @@ impl<'a> Expander<'a> {
 
     /// The values for the next turn: those of the steps, or the variables, which are those from a level on.
     fn next_values(&mut self, pos: Pos, steps: &[Option<u32>], level: u32) -> Result<(), AllocError>
-        ensures { OnOk result ((ds : Items) → ReadAll self.old.source (those steps.now) ds → Adds self.old self.new (least (in_exps (all_exprs ds)))) }
+        ensures fault { OnOk result ((ds : Items) → ReadAll self.old.source (those steps.now) ds → Adds self.old self.new (least (in_exps (all_exprs ds)))) }
+        ensures core { OnOk result ((c : Context) (v : View) → IsView c self.old v → level ≤ height v → length (from_level level v.bound) ≡ length steps.now → (xs : Seq Variable) × (map (name_of c.names) xs ≡ variables_of level (from_level level v.bound)) × Puts self.old self.new (next_steps pos steps.now xs)) }
     {
         let variables = self.maker.scope.variables_from(self.alloc, level)?;
         let mut later = variables.as_slice();
@@ -319,7 +346,8 @@ impl<'a> Expander<'a> {
         step: Option<u32>,
         variable: Variable,
     ) -> Result<(), AllocError>
-        ensures { OnOk result ((ds : Items) → ReadAll self.old.source (those (step ∷ [])) ds → Adds self.old self.new (least (in_exps (all_exprs ds)))) }
+        ensures fault { OnOk result ((ds : Items) → ReadAll self.old.source (those (step ∷ [])) ds → Adds self.old self.new (least (in_exps (all_exprs ds)))) }
+        ensures core { OnOk result (Puts self.old self.new (next_step pos step variable ∷ [])) }
     {
         match step {
             Some(id) => self.wait(&[Step::Expr(id)]),
@@ -329,12 +357,13 @@ impl<'a> Expander<'a> {
 
     /// What a `do` comes to: a `Seq` of its results, or nothing.
     fn results(&mut self, pos: Pos, exprs: &'a [u32]) -> Result<(), AllocError>
-        ensures { OnOk result ((ds : Items) → ReadAll self.old.source exprs.now ds → Adds self.old self.new (least (in_exps (all_exprs ds)))) }
+        ensures fault { OnOk result ((ds : Items) → ReadAll self.old.source exprs.now ds → Adds self.old self.new (least (in_exps (all_exprs ds)))) }
+        ensures core { OnOk result (Puts self.old self.new (result_steps pos exprs.entry)) }
     {
         if exprs.is_empty() {
             return self.wait(&[Step::Unspecified(pos)]);
         }
-        self.sequence(pos, exprs)
+        self.wait(&[Step::Sequence(pos, exprs.len()), Step::Exprs(exprs)])
     }
 }
 

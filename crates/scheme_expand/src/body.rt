@@ -1,16 +1,22 @@
 //! Definitions and bodies (R4RS 5.2).
 
-ghost use Rattle.std.specs.Prelude.{◌≡◌, List as Seq, Option as Perhaps, OnOk, IfOk, MatchOption, true, false};
+ghost use Rattle.std.specs.Prelude.{◌≡◌, ◌∷◌, [], List as Seq, Option as Perhaps, OnOk, IfOk, MatchOption, true, false};
 ghost use Rattle.scheme_base.specs.declared.pos.Pos.{Pos as Place};
 ghost use Rattle.datum_form.specs.Data.{Datum, Items};
 ghost use Rattle.datum_form.specs.Data.Items.{item};
 ghost use Rattle.scheme_expand.specs.declared.source.Source.{Source as From};
-ghost use Rattle.scheme_expand.specs.Forms.{no_binding, Body as Surface, Word};
+ghost use Rattle.scheme_expand.specs.declared.step.Step.TheVariants as step;
+ghost use Rattle.scheme_expand.specs.Forms.{no_binding, Body as Surface, Exp, Word};
 ghost use Rattle.quasi_expand.specs.Shapes.{is_name};
 ghost use Rattle.scheme_expand.specs.Grammar.{is_define, is_no_body, one_is_define, definition as definition_of, definitions_before, each_definition, bound_words, lambda_form, procedure as procedure_form, exprs as all_exprs, body as body_in};
-ghost use Rattle.scheme_expand.specs.Faults.{least, in_exp, in_exps, in_body};
+ghost use Rattle.scheme_expand.specs.Faults.{least, in_exp, in_exps, in_body, in_bindings};
+ghost use Rattle.scheme_expand.specs.Making.{Defines, IsRight, AreRight};
+ghost use Rattle.scheme_expand.specs.Putting.{defined_steps};
+ghost use Rattle.scheme_expand.specs.Rewriting.{are_lambdas as are_procedures, body_core, cores, is_lambda as is_procedure, sequence as sequence_of};
+ghost use Rattle.scheme_expand.specs.Viewed.{IsView, Puts, Turns};
+ghost use Rattle.scheme_expand.specs.Views.{Context, View, scope_of, visit, seen};
 ghost use Rattle.scheme_expand.specs.Waiting.{Reads, ReadAll, Adds, place, in_values, named_datum, named_data};
-ghost use Rattle.scheme_expand.specs.Shapes.{IsRead, AreDefinitions, AreFormals, ReadTail, with_end, IsHead, IsBody, Collects, is_begin, IsBegun};
+ghost use Rattle.scheme_expand.specs.Shapes.{IsRead, IsValue, AreDefinitions, AreFormals, ReadTail, with_end, IsHead, IsBody, Collects, is_begin, IsBegun};
 
 use crate::expander::Expander;
 use crate::fault::Rule;
@@ -115,10 +121,11 @@ fn read_procedure<'a>(
 
 impl Defined<'_> {
     /// Whether this is a lambda expression.
-    pub(crate) fn is_lambda(self, source: Source) -> bool {
+    pub(crate) fn is_lambda(self, source: Source) -> bool
+        ensures { (p : Place) (e : Exp) → IsValue source.entry self.entry p e → IsRight e → result ≡ is_procedure e }
+    {
         match self {
-            Defined::Expr(id) => source.list(id).is_some()
-                && source.head(id) == Some(Keyword::Lambda),
+            Defined::Expr(id) => source.is_lambda(id),
             Defined::Procedure(..) => true,
         }
     }
@@ -254,13 +261,17 @@ fn defined_names(alloc: Global, source: Source, definitions: &[u32]) -> Result<V
 }
 
 /// Whether all good definitions among these define lambda expressions.
-fn define_lambdas(source: Source, definitions: &[u32]) -> bool {
-    for id in definitions {
-        if let Ok(definition) = read_definition(source, *id) {
+fn define_lambdas(source: Source, definitions: &[u32]) -> bool
+    ensures { (ds : Items) → AreDefinitions source.entry definitions.now ds → in_bindings (each_definition ds no_binding) ≡ [] → result ≡ are_procedures (each_definition ds no_binding) }
+{
+    let mut rest = definitions;
+    while let Some((first, others)) = rest.split_first() {
+        if let Ok(definition) = read_definition(source, *first) {
             if !definition.value.is_lambda(source) {
                 return false;
             }
         }
+        rest = others;
     }
     true
 }
@@ -268,7 +279,8 @@ fn define_lambdas(source: Source, definitions: &[u32]) -> bool {
 impl<'a> Expander<'a> {
     /// A body of a form at a place: a `letrec` of its definitions round its expressions.
     pub(crate) fn body(&mut self, pos: Pos, body: &Body<'a>) -> Result<(), AllocError>
-        ensures { OnOk result ((b : Surface) → IsBody self.old.source body.now b → Adds self.old self.new (least (in_body b))) }
+        ensures fault { OnOk result ((b : Surface) → IsBody self.old.source body.now b → Adds self.old self.new (least (in_body b))) }
+        ensures core { OnOk result ((c : Context) (v : View) (b : Surface) → IsView c self.old v → IsBody c.source body.now b → in_body b ≡ [] → Turns c self.old self.new (visit c (body_core b pos (scope_of c v)) v)) }
     {
         if body.definitions.is_empty() {
             return self.expressions(pos, body.exprs);
@@ -286,7 +298,8 @@ impl<'a> Expander<'a> {
 
     /// The values of definitions that are good ones.
     fn values(&mut self, definitions: &[u32]) -> Result<(), AllocError>
-        ensures { OnOk result ((ds : Items) → AreDefinitions self.old.source definitions.now ds → Adds self.old self.new (least (in_values (each_definition ds no_binding)))) }
+        ensures fault { OnOk result ((ds : Items) → AreDefinitions self.old.source definitions.now ds → Adds self.old self.new (least (in_values (each_definition ds no_binding)))) }
+        ensures core { OnOk result ((ds : Items) → AreDefinitions self.old.source definitions.now ds → in_bindings (each_definition ds no_binding) ≡ [] → Puts self.old self.new (defined_steps definitions.now)) }
     {
         let mut rest = definitions;
         while let Some((last, others)) = rest.split_last() {
@@ -298,7 +311,8 @@ impl<'a> Expander<'a> {
 
     /// The value of a definition, if it is a good one.
     fn value(&mut self, id: u32) -> Result<(), AllocError>
-        ensures { OnOk result ((d : Datum) → Reads self.old.source id d → is_define d ≡ true → Adds self.old self.new (least (in_values (definitions_before d no_binding)))) }
+        ensures fault { OnOk result ((d : Datum) → Reads self.old.source id d → is_define d ≡ true → Adds self.old self.new (least (in_values (definitions_before d no_binding)))) }
+        ensures core { OnOk result ((d : Datum) → Reads self.old.source id d → is_define d ≡ true → in_bindings (definitions_before d no_binding) ≡ [] → Puts self.old self.new (step.Defined id ∷ [])) }
     {
         match read_definition(self.source, id) {
             Ok(_) => self.wait(&[Step::Defined(id)]),
@@ -312,17 +326,22 @@ impl<'a> Expander<'a> {
 
     /// The one expression of a body, or a `Seq` of several.
     fn expressions(&mut self, pos: Pos, exprs: &'a [u32]) -> Result<(), AllocError>
-        ensures { OnOk result ((ds : Items) → ReadAll self.old.source exprs.now ds → Adds self.old self.new (least (in_exps (all_exprs ds)))) }
+        ensures fault { OnOk result ((ds : Items) → ReadAll self.old.source exprs.now ds → Adds self.old self.new (least (in_exps (all_exprs ds)))) }
+        ensures core { OnOk result ((c : Context) (v : View) (ds : Items) → IsView c self.old v → ReadAll c.source exprs.now ds → AreRight (all_exprs ds) → Turns c self.old self.new (visit c (sequence_of pos (cores (all_exprs ds) (scope_of c v))) v)) }
     {
-        match exprs {
-            [only] => self.wait(&[Step::Expr(*only)]),
-            _ => self.sequence(pos, exprs),
+        let Some((first, others)) = exprs.split_first() else {
+            return self.sequence(pos, exprs);
+        };
+        if others.is_empty() {
+            return self.wait(&[Step::Expr(*first)]);
         }
+        self.sequence(pos, exprs)
     }
 
     /// The value of a definition.
     pub(crate) fn defined(&mut self, id: u32) -> Result<(), AllocError>
-        ensures { OnOk result ((d : Datum) → Reads self.old.source id d → is_define d ≡ true → Adds self.old self.new (least (in_values (definitions_before d no_binding)))) }
+        ensures fault { OnOk result ((d : Datum) → Reads self.old.source id d → is_define d ≡ true → Adds self.old self.new (least (in_values (definitions_before d no_binding)))) }
+        ensures core { OnOk result ((c : Context) (v : View) (d : Datum) (e : Exp) → IsView c self.old v → Reads c.source id d → Defines d e → IsRight e → Turns c self.old self.new (seen c e v)) }
     {
         let pos = self.source.pos(id);
         match read_definition(self.source, id) {
@@ -336,7 +355,8 @@ impl<'a> Expander<'a> {
 
     /// `(lambda formals body)`
     pub(crate) fn lambda(&mut self, pos: Pos, operands: &'a [u32]) -> Result<(), AllocError>
-        ensures { OnOk result ((ds : Items) → ReadAll self.old.source operands.now ds → Adds self.old self.new (least (in_exp (lambda_form pos ds)))) }
+        ensures fault { OnOk result ((ds : Items) → ReadAll self.old.source operands.now ds → Adds self.old self.new (least (in_exp (lambda_form pos ds)))) }
+        ensures core { OnOk result ((c : Context) (v : View) (ds : Items) → IsView c self.old v → ReadAll c.source operands.now ds → IsRight (lambda_form pos ds) → Turns c self.old self.new (seen c (lambda_form pos ds) v)) }
     {
         let Some((formals, body)) = operands.split_first() else {
             return self.broken(pos, Rule::Formals);
@@ -354,7 +374,8 @@ impl<'a> Expander<'a> {
         formals: Formals<'a>,
         body: &'a [u32],
     ) -> Result<(), AllocError>
-        ensures { OnOk result ((ws : Seq Word) (r : Perhaps Word) (ds : Items) → AreFormals self.old.source formals.entry ws r → ReadAll self.old.source body.now ds → Adds self.old self.new (least (in_exp (procedure_form pos ws r ds (body_in ds))))) }
+        ensures fault { OnOk result ((ws : Seq Word) (r : Perhaps Word) (ds : Items) → AreFormals self.old.source formals.entry ws r → ReadAll self.old.source body.now ds → Adds self.old self.new (least (in_exp (procedure_form pos ws r ds (body_in ds))))) }
+        ensures core { OnOk result ((c : Context) (v : View) (ws : Seq Word) (r : Perhaps Word) (ds : Items) → IsView c self.old v → AreFormals c.source formals.entry ws r → ReadAll c.source body.now ds → IsRight (procedure_form pos ws r ds (body_in ds)) → Turns c self.old self.new (seen c (procedure_form pos ws r ds (body_in ds)) v)) }
     {
         let Some(body) = read_body(self.alloc, self.source, body)? else {
             return self.broken(pos, Rule::Body);

@@ -1,15 +1,20 @@
 //! `cond` and `case` (R4RS 4.2.1), whose clauses are expanded from the last to the first.
 
-ghost use Rattle.std.specs.Prelude.{◌≡◌, None, OnOk, true, false, codes};
+ghost use Rattle.std.specs.Prelude.{◌≡◌, suc, [], None, OnOk, IfOk, true, false, codes};
 ghost use Rattle.scheme_base.specs.declared.pos.Pos.{Pos as Place};
 ghost use Rattle.datum_form.specs.Data.{Datum, Datum as datum, Items};
 ghost use Rattle.datum_form.specs.Data.Items.{item};
 ghost use Rattle.quasi_expand.specs.Shapes.{are_clauses as all_clauses, is_case, is_word};
 ghost use Rattle.scheme_expand.specs.declared.source.Source.{Source as From};
-ghost use Rattle.scheme_expand.specs.Grammar.{is_clause, case_form, clauses as clauses_in, cases as cases_in};
+ghost use Rattle.scheme_expand.specs.Forms.{no_clause};
+ghost use Rattle.scheme_expand.specs.Grammar.{is_clause, case_form, clause_before, clauses as clauses_in, cases as cases_in};
 ghost use Rattle.scheme_expand.specs.Faults.{least, in_exp, in_clauses, in_cases};
 ghost use Rattle.scheme_expand.specs.Waiting.{Reads, ReadAll, Adds, may_be_clauses};
+ghost use Rattle.scheme_expand.specs.Holding.{Holds, cases_end, key_tests};
+ghost use Rattle.scheme_expand.specs.Making.{IsRight, clauses_made, cases_made};
 ghost use Rattle.scheme_expand.specs.Shapes.{IsFound, cond_form};
+ghost use Rattle.scheme_expand.specs.Viewed.{IsView, Puts, Turns};
+ghost use Rattle.scheme_expand.specs.Views.{Context, View, height, seen};
 
 use crate::expander::Expander;
 use crate::fault::Rule;
@@ -77,16 +82,33 @@ fn read_test<'a>(source: Source<'a>, test: u32, exprs: &'a [u32]) -> Option<Clau
 }
 
 /// Binds a fresh variable for each test whose value is held, and tells whether the clauses end with `else`.
-fn hold_tests(source: Source, clauses: &[u32], scope: &mut Scope) -> Result<bool, AllocError> {
+fn hold_tests(source: Source, clauses: &[u32], scope: &mut Scope) -> Result<bool, AllocError>
+    ensures { IfOk result (λ ends. (ds : Items) → ReadAll source.entry clauses.now ds → may_be_clauses is_clause ds ≡ true → Holds (clauses_in ds) ends scope.old scope.new) }
+{
     let mut ends = false;
-    for clause in clauses {
-        match read_clause(source, *clause) {
-            Some(Clause::Test(_) | Clause::Receiver(..)) => scope.bind_fresh()?,
-            Some(Clause::Else(_)) => ends = true,
-            _ => {}
-        }
+    let mut rest = clauses;
+    while let Some((first, others)) = rest.split_first() {
+        ends = hold_test(source, *first, scope)?;
+        rest = others;
     }
     Ok(ends)
+}
+
+/// The same of one clause.
+fn hold_test(source: Source, id: u32, scope: &mut Scope) -> Result<bool, AllocError>
+    ensures { IfOk result (λ is_else. (d : Datum) → Reads source.entry id d → is_clause true d ≡ true → Holds (clause_before d no_clause) is_else scope.old scope.new) }
+{
+    let Some(clause) = read_clause(source, id) else {
+        return Ok(false);
+    };
+    match clause {
+        Clause::Then(..) => Ok(false),
+        Clause::Else(_) => Ok(true),
+        Clause::Test(_) | Clause::Receiver(..) => {
+            scope.bind_fresh()?;
+            Ok(false)
+        }
+    }
 }
 
 impl<'a> Expander<'a> {
@@ -122,7 +144,8 @@ impl<'a> Expander<'a> {
     }
 
     pub(crate) fn cond(&mut self, pos: Pos, clauses: &'a [u32]) -> Result<(), AllocError>
-        ensures { OnOk result ((ds : Items) → ReadAll self.old.source clauses.now ds → Adds self.old self.new (least (in_exp (cond_form pos ds)))) }
+        ensures fault { OnOk result ((ds : Items) → ReadAll self.old.source clauses.now ds → Adds self.old self.new (least (in_exp (cond_form pos ds)))) }
+        ensures core { OnOk result ((c : Context) (v : View) (ds : Items) → IsView c self.old v → ReadAll c.source clauses.now ds → IsRight (cond_form pos ds) → Turns c self.old self.new (seen c (cond_form pos ds) v)) }
     {
         if !self.are_clauses(clauses) {
             return self.broken(pos, Rule::Cond);
@@ -143,7 +166,8 @@ impl<'a> Expander<'a> {
         clauses: &'a [u32],
         level: u32,
     ) -> Result<(), AllocError>
-        ensures { OnOk result ((ds : Items) → ReadAll self.old.source clauses.now ds → may_be_clauses is_clause ds ≡ true → Adds self.old self.new (least (in_clauses (clauses_in ds)))) }
+        ensures fault { OnOk result ((ds : Items) → ReadAll self.old.source clauses.now ds → may_be_clauses is_clause ds ≡ true → Adds self.old self.new (least (in_clauses (clauses_in ds)))) }
+        ensures core { OnOk result ((c : Context) (v : View) (ds : Items) → IsView c self.old v → ReadAll c.source clauses.now ds → may_be_clauses is_clause ds ≡ true → in_clauses (clauses_in ds) ≡ [] → level ≡ height v → Turns c self.old self.new (clauses_made c pos (clauses_in ds) v)) }
     {
         let Some((last, others)) = clauses.split_last() else {
             return Ok(());
@@ -188,7 +212,8 @@ impl<'a> Expander<'a> {
 
     /// `(case key clause ..)`, with these items.
     pub(crate) fn case(&mut self, pos: Pos, items: &'a [u32]) -> Result<(), AllocError>
-        ensures { OnOk result ((d : Datum) (ds : Items) → ReadAll self.old.source items.now (item d ds) → Adds self.old self.new (least (in_exp (case_form pos ds)))) }
+        ensures fault { OnOk result ((d : Datum) (ds : Items) → ReadAll self.old.source items.now (item d ds) → Adds self.old self.new (least (in_exp (case_form pos ds)))) }
+        ensures core { OnOk result ((c : Context) (v : View) (d : Datum) (ds : Items) → IsView c self.old v → ReadAll c.source items.now (item d ds) → IsRight (case_form pos ds) → Turns c self.old self.new (seen c (case_form pos ds) v)) }
     {
         let Some(case) = read_case(self.source.nodes, items) else {
             return self.broken(pos, Rule::Case);
@@ -214,7 +239,8 @@ impl<'a> Expander<'a> {
         clauses: &'a [u32],
         level: u32,
     ) -> Result<(), AllocError>
-        ensures { OnOk result ((ds : Items) → ReadAll self.old.source clauses.now ds → may_be_clauses is_case ds ≡ true → Adds self.old self.new (least (in_cases (cases_in ds)))) }
+        ensures fault { OnOk result ((ds : Items) → ReadAll self.old.source clauses.now ds → may_be_clauses is_case ds ≡ true → Adds self.old self.new (least (in_cases (cases_in ds)))) }
+        ensures core { OnOk result ((c : Context) (v : View) (ds : Items) → IsView c self.old v → ReadAll c.source clauses.now ds → may_be_clauses is_case ds ≡ true → in_cases (cases_in ds) ≡ [] → height v ≡ suc level → Turns c self.old self.new (cases_made c pos level (cases_in ds) v)) }
     {
         let Some((last, others)) = clauses.split_last() else {
             return Ok(());
@@ -228,10 +254,16 @@ impl<'a> Expander<'a> {
     }
 
     /// The test of a clause of a `case`, if it has data.
-    fn test_case(&mut self, pos: Pos, data: Option<&'a [u32]>, level: u32) -> Result<(), AllocError>
-        ensures { OnOk result (Adds self.old self.new None) }
+    fn test_case(
+        &mut self,
+        pos: Pos,
+        among: Option<&'a [u32]>,
+        level: u32,
+    ) -> Result<(), AllocError>
+        ensures fault { OnOk result (Adds self.old self.new None) }
+        ensures core { OnOk result (Puts self.old self.new (key_tests pos among.entry level)) }
     {
-        match data {
+        match among {
             Some(data) => self.wait(&[Step::Branch(pos), Step::IsAmong(pos, data, level)]),
             None => Ok(()),
         }
@@ -239,7 +271,9 @@ impl<'a> Expander<'a> {
 }
 
 /// Whether the last of some clauses of a `case` begins with `else`.
-fn ends_with_else(source: Source, clauses: &[u32]) -> bool {
+fn ends_with_else(source: Source, clauses: &[u32]) -> bool
+    ensures { (ds : Items) → ReadAll source.entry clauses.now ds → all_clauses is_case ds ≡ true → result ≡ cases_end (cases_in ds) }
+{
     let Some((last, _)) = clauses.split_last() else {
         return false;
     };

@@ -1,13 +1,23 @@
 //! Which form a datum is, and the forms that bind nothing (R4RS 4.1, 4.2.1, 4.2.3 and 4.2.6).
 
-ghost use Rattle.std.specs.Prelude.{◌≡◌, [], ◌∷◌, Option as Perhaps, OnOk, IfSome};
+ghost use Rattle.std.specs.Prelude.{ℕ, ◌≡◌, [], ◌∷◌, Option as Perhaps, Some, OnOk, IfSome, MatchOption, slice_set, true};
 ghost use Rattle.datum_form.specs.Data.Items.{item};
 ghost use Rattle.datum_form.specs.Data.{Datum, Datum as datum, Items};
+ghost use Rattle.draft_form.specs.declared.draft.Variable.TheVariants as kind;
+ghost use Rattle.draft_form.specs.Drafts.{Changed, Call, Draft as Tree, Drafts as Trees};
+ghost use Rattle.draft_form.specs.Drawn.{name_of};
 ghost use Rattle.quasi_expand.specs.Steps.{exprs_in};
+ghost use Rattle.scheme_base.specs.declared.pos.Pos.{Pos as Place};
+ghost use Rattle.scheme_expand.specs.Calls.{count as count_of};
 ghost use Rattle.scheme_expand.specs.Grammar.{expr as expression, exprs as all_exprs, quote_form, quasi_form, if_form, set_form, begin_form};
 ghost use Rattle.scheme_expand.specs.Faults.{Fault, least, in_exp, in_exps, in_word};
-ghost use Rattle.scheme_expand.specs.Forms.{Word};
+ghost use Rattle.scheme_expand.specs.Forms.{Word, Variable as Meaning, And, Or};
+ghost use Rattle.scheme_expand.specs.Making.{AreRight, ComesTo, IsRight, alternated, conjoined, known_draft, sequenced};
+ghost use Rattle.scheme_expand.specs.Rewriting.{call as call_of, core as core_of};
 ghost use Rattle.scheme_expand.specs.Shapes.{ReadTail, with_end};
+ghost use Rattle.scheme_expand.specs.Putting.{part_step, part_steps};
+ghost use Rattle.scheme_expand.specs.Viewed.{IsView, Leaves, Turns, Puts};
+ghost use Rattle.scheme_expand.specs.Views.{Context, View, bound_names, height, noting, scope_of, seen, visit, visit_all};
 ghost use Rattle.scheme_expand.specs.Waiting.{Reads, ReadAll, Waits, Adds, Keeps, earlier, keyword_of, named_datum};
 
 use crate::expander::Expander;
@@ -23,7 +33,8 @@ use std::alloc::AllocError;
 impl<'a> Expander<'a> {
     /// An expression.
     pub(crate) fn expr(&mut self, id: u32) -> Result<(), AllocError>
-        ensures { OnOk result ((d : Datum) → Reads self.old.source id d → Adds self.old self.new (least (in_exp (expression d)))) }
+        ensures fault { OnOk result ((d : Datum) → Reads self.old.source id d → Adds self.old self.new (least (in_exp (expression d)))) }
+        ensures core { OnOk result ((c : Context) (v : View) (d : Datum) → IsView c self.old v → Reads c.source id d → IsRight (expression d) → Turns c self.old self.new (seen c (expression d) v)) }
     {
         let pos = self.source.pos(id);
         let Some(kind) = self.source.kind(id) else {
@@ -39,7 +50,8 @@ impl<'a> Expander<'a> {
 
     /// A name as an expression.
     fn name_here(&mut self, pos: Pos, id: u32) -> Result<(), AllocError>
-        ensures { OnOk result ((w : Word) → Reads self.old.source id (named_datum w) → Adds self.old self.new (least (in_word w))) }
+        ensures fault { OnOk result ((w : Word) → Reads self.old.source id (named_datum w) → Adds self.old self.new (least (in_word w))) }
+        ensures core { OnOk result ((c : Context) (v : View) (w : Word) → IsView c self.old v → Reads c.source id (named_datum w) → w.place ≡ pos → Turns c self.old self.new (seen c (Meaning w) v)) }
     {
         let word = self.name(id)?;
         let variable = self.variable(word);
@@ -48,7 +60,8 @@ impl<'a> Expander<'a> {
 
     /// A list, with a tail or without.
     fn chain(&mut self, pos: Pos, items: &'a [u32], tail: Option<u32>) -> Result<(), AllocError>
-        ensures { OnOk result ((ds : Items) (end : Perhaps Datum) → ReadAll self.old.source items.now ds → ReadTail self.old.source tail end → Adds self.old self.new (least (in_exp (expression (with_end pos ds end))))) }
+        ensures fault { OnOk result ((ds : Items) (end : Perhaps Datum) → ReadAll self.old.source items.now ds → ReadTail self.old.source tail end → Adds self.old self.new (least (in_exp (expression (with_end pos ds end))))) }
+        ensures core { OnOk result ((c : Context) (v : View) (ds : Items) (end : Perhaps Datum) → IsView c self.old v → ReadAll c.source items.now ds → ReadTail c.source tail end → IsRight (expression (with_end pos ds end)) → Turns c self.old self.new (seen c (expression (with_end pos ds end)) v)) }
     {
         match tail {
             None => self.list(pos, items),
@@ -57,7 +70,8 @@ impl<'a> Expander<'a> {
     }
 
     fn list(&mut self, pos: Pos, items: &'a [u32]) -> Result<(), AllocError>
-        ensures { OnOk result ((ds : Items) → ReadAll self.old.source items.now ds → Adds self.old self.new (least (in_exp (expression (datum.List pos ds))))) }
+        ensures fault { OnOk result ((ds : Items) → ReadAll self.old.source items.now ds → Adds self.old self.new (least (in_exp (expression (datum.List pos ds))))) }
+        ensures core { OnOk result ((c : Context) (v : View) (ds : Items) → IsView c self.old v → ReadAll c.source items.now ds → IsRight (expression (datum.List pos ds)) → Turns c self.old self.new (seen c (expression (datum.List pos ds)) v)) }
     {
         let Some((head, operands)) = items.split_first() else {
             return self.broken(pos, Rule::Empty);
@@ -76,7 +90,8 @@ impl<'a> Expander<'a> {
         items: &'a [u32],
         operands: &'a [u32],
     ) -> Result<(), AllocError>
-        ensures { OnOk result ((d : Datum) (ds : Items) → ReadAll self.old.source items.now (item d ds) → ReadAll self.old.source operands.now ds → keyword_of d ≡ Some keyword → Adds self.old self.new (least (in_exp (expression (datum.List pos (item d ds)))))) }
+        ensures fault { OnOk result ((d : Datum) (ds : Items) → ReadAll self.old.source items.now (item d ds) → ReadAll self.old.source operands.now ds → keyword_of d ≡ Some keyword → Adds self.old self.new (least (in_exp (expression (datum.List pos (item d ds)))))) }
+        ensures core { OnOk result ((c : Context) (v : View) (d : Datum) (ds : Items) → IsView c self.old v → ReadAll c.source items.now (item d ds) → ReadAll c.source operands.now ds → keyword_of d ≡ Some keyword → IsRight (expression (datum.List pos (item d ds))) → Turns c self.old self.new (seen c (expression (datum.List pos (item d ds))) v)) }
     {
         match keyword {
             Keyword::Quote => self.quote(pos, operands),
@@ -118,7 +133,8 @@ impl<'a> Expander<'a> {
     }
 
     fn quote(&mut self, pos: Pos, operands: &'a [u32]) -> Result<(), AllocError>
-        ensures { OnOk result ((ds : Items) → ReadAll self.old.source operands.now ds → Adds self.old self.new (least (in_exp (quote_form pos ds)))) }
+        ensures fault { OnOk result ((ds : Items) → ReadAll self.old.source operands.now ds → Adds self.old self.new (least (in_exp (quote_form pos ds)))) }
+        ensures core { OnOk result ((c : Context) (v : View) (ds : Items) → IsView c self.old v → ReadAll c.source operands.now ds → IsRight (quote_form pos ds) → Turns c self.old self.new (seen c (quote_form pos ds) v)) }
     {
         let [datum] = operands else {
             return self.broken(pos, Rule::Quote);
@@ -127,7 +143,8 @@ impl<'a> Expander<'a> {
     }
 
     fn quasiquote(&mut self, pos: Pos, operands: &'a [u32]) -> Result<(), AllocError>
-        ensures { OnOk result ((ds : Items) → ReadAll self.old.source operands.now ds → Adds self.old self.new (least (in_exp (quasi_form pos ds)))) }
+        ensures fault { OnOk result ((ds : Items) → ReadAll self.old.source operands.now ds → Adds self.old self.new (least (in_exp (quasi_form pos ds)))) }
+        ensures core { OnOk result ((c : Context) (v : View) (ds : Items) → IsView c self.old v → ReadAll c.source operands.now ds → IsRight (quasi_form pos ds) → Turns c self.old self.new (seen c (quasi_form pos ds) v)) }
     {
         let [template] = operands else {
             return self.broken(pos, Rule::Quote);
@@ -138,7 +155,8 @@ impl<'a> Expander<'a> {
 
     /// The steps of a template, of which the first is the next to be done.
     fn template_steps(&mut self, pos: Pos, parts: &[Part]) -> Result<(), AllocError>
-        ensures { OnOk result ((ds : Items) → ReadAll self.old.source (exprs_in parts.now) ds → Adds self.old self.new (least (in_exps (all_exprs ds)))) }
+        ensures fault { OnOk result ((ds : Items) → ReadAll self.old.source (exprs_in parts.now) ds → Adds self.old self.new (least (in_exps (all_exprs ds)))) }
+        ensures core { OnOk result (Puts self.old self.new (part_steps pos parts.now)) }
     {
         let mut rest = parts;
         while let Some((last, others)) = rest.split_last() {
@@ -149,7 +167,8 @@ impl<'a> Expander<'a> {
     }
 
     fn template_step(&mut self, pos: Pos, part: Part) -> Result<(), AllocError>
-        ensures { OnOk result ((ds : Items) → ReadAll self.old.source (exprs_in (part ∷ [])) ds → Adds self.old self.new (least (in_exps (all_exprs ds)))) }
+        ensures fault { OnOk result ((ds : Items) → ReadAll self.old.source (exprs_in (part ∷ [])) ds → Adds self.old self.new (least (in_exps (all_exprs ds)))) }
+        ensures core { OnOk result (Puts self.old self.new (part_step pos part ∷ [])) }
     {
         match part {
             Part::Expr(expr) => self.wait(&[Step::Expr(expr)]),
@@ -158,7 +177,8 @@ impl<'a> Expander<'a> {
     }
 
     fn conditional(&mut self, pos: Pos, operands: &'a [u32]) -> Result<(), AllocError>
-        ensures { OnOk result ((ds : Items) → ReadAll self.old.source operands.now ds → Adds self.old self.new (least (in_exp (if_form pos ds)))) }
+        ensures fault { OnOk result ((ds : Items) → ReadAll self.old.source operands.now ds → Adds self.old self.new (least (in_exp (if_form pos ds)))) }
+        ensures core { OnOk result ((c : Context) (v : View) (ds : Items) → IsView c self.old v → ReadAll c.source operands.now ds → IsRight (if_form pos ds) → Turns c self.old self.new (seen c (if_form pos ds) v)) }
     {
         match operands {
             [test, yes] => self.wait(&[
@@ -178,7 +198,8 @@ impl<'a> Expander<'a> {
     }
 
     fn assignment(&mut self, pos: Pos, operands: &'a [u32]) -> Result<(), AllocError>
-        ensures { OnOk result ((ds : Items) → ReadAll self.old.source operands.now ds → Adds self.old self.new (least (in_exp (set_form pos ds)))) }
+        ensures fault { OnOk result ((ds : Items) → ReadAll self.old.source operands.now ds → Adds self.old self.new (least (in_exp (set_form pos ds)))) }
+        ensures core { OnOk result ((c : Context) (v : View) (ds : Items) → IsView c self.old v → ReadAll c.source operands.now ds → IsRight (set_form pos ds) → Turns c self.old self.new (seen c (set_form pos ds) v)) }
     {
         let [name, value] = operands else {
             return self.broken(pos, Rule::IfOrSet);
@@ -194,7 +215,8 @@ impl<'a> Expander<'a> {
 
     /// Notes that a variable is assigned.
     fn assign(&mut self, variable: Variable)
-        ensures { Keeps self.old self.new }
+        ensures fault { Keeps self.old self.new }
+        ensures core { (c : Context) (v : View) → IsView c self.old v → Leaves c self.old self.new (noting c (Changed (name_of c.names variable) ∷ []) v) }
     {
         match variable {
             Variable::Local { level, .. } => self.maker.scope.assign(level),
@@ -204,18 +226,18 @@ impl<'a> Expander<'a> {
 
     /// Notes that a top-level variable is assigned or defined.
     pub(crate) fn change(&mut self, variable: Variable)
-        ensures { Keeps self.old self.new }
+        ensures fault { Keeps self.old self.new }
+        ensures core { (c : Context) (v : View) → IsView c self.old v → ((level word : ℕ) → variable ≡ kind.Local level word → ⊥) → Leaves c self.old self.new (noting c (Changed (name_of c.names variable) ∷ []) v) }
     {
         let Variable::Library { word } = variable else {
             return;
         };
-        if let Some(changed) = self.changed.get_mut(word as usize) {
-            *changed = true;
-        }
+        mark(&mut self.changed, word);
     }
 
     fn begin(&mut self, pos: Pos, exprs: &'a [u32]) -> Result<(), AllocError>
-        ensures { OnOk result ((ds : Items) → ReadAll self.old.source exprs.now ds → Adds self.old self.new (least (in_exp (begin_form pos ds)))) }
+        ensures fault { OnOk result ((ds : Items) → ReadAll self.old.source exprs.now ds → Adds self.old self.new (least (in_exp (begin_form pos ds)))) }
+        ensures core { OnOk result ((c : Context) (v : View) (ds : Items) → IsView c self.old v → ReadAll c.source exprs.now ds → IsRight (begin_form pos ds) → Turns c self.old self.new (seen c (begin_form pos ds) v)) }
     {
         if exprs.is_empty() {
             return self.broken(pos, Rule::Begin);
@@ -225,13 +247,15 @@ impl<'a> Expander<'a> {
 
     /// A `Seq` of expressions.
     pub(crate) fn sequence(&mut self, pos: Pos, exprs: &'a [u32]) -> Result<(), AllocError>
-        ensures { OnOk result ((ds : Items) → ReadAll self.old.source exprs.now ds → Adds self.old self.new (least (in_exps (all_exprs ds)))) }
+        ensures fault { OnOk result ((ds : Items) → ReadAll self.old.source exprs.now ds → Adds self.old self.new (least (in_exps (all_exprs ds)))) }
+        ensures core { OnOk result ((c : Context) (v : View) (ds : Items) → IsView c self.old v → ReadAll c.source exprs.now ds → AreRight (all_exprs ds) → Turns c self.old self.new (sequenced c pos (all_exprs ds) v)) }
     {
         self.wait(&[Step::Sequence(pos, exprs.len()), Step::Exprs(exprs)])
     }
 
     fn and(&mut self, pos: Pos, operands: &'a [u32]) -> Result<(), AllocError>
-        ensures { OnOk result ((ds : Items) → ReadAll self.old.source operands.now ds → Adds self.old self.new (least (in_exps (all_exprs ds)))) }
+        ensures fault { OnOk result ((ds : Items) → ReadAll self.old.source operands.now ds → Adds self.old self.new (least (in_exps (all_exprs ds)))) }
+        ensures core { OnOk result ((c : Context) (v : View) (ds : Items) → IsView c self.old v → ReadAll c.source operands.now ds → IsRight (And pos (all_exprs ds)) → Turns c self.old self.new (seen c (And pos (all_exprs ds)) v)) }
     {
         let Some((last, others)) = operands.split_last() else {
             return self.constant(Constant::Boolean(true), pos);
@@ -240,7 +264,8 @@ impl<'a> Expander<'a> {
     }
 
     pub(crate) fn conjuncts(&mut self, pos: Pos, exprs: &'a [u32]) -> Result<(), AllocError>
-        ensures { OnOk result ((ds : Items) → ReadAll self.old.source exprs.now ds → Adds self.old self.new (least (in_exps (all_exprs ds)))) }
+        ensures fault { OnOk result ((ds : Items) → ReadAll self.old.source exprs.now ds → Adds self.old self.new (least (in_exps (all_exprs ds)))) }
+        ensures core { OnOk result ((c : Context) (v : View) (ds : Items) → IsView c self.old v → ReadAll c.source exprs.now ds → AreRight (all_exprs ds) → Turns c self.old self.new (conjoined c pos (all_exprs ds) v)) }
     {
         let Some((last, others)) = exprs.split_last() else {
             return Ok(());
@@ -254,7 +279,8 @@ impl<'a> Expander<'a> {
 
     /// An `or`: each operand but the last is held by a fresh variable, round those after it.
     fn or(&mut self, pos: Pos, operands: &'a [u32]) -> Result<(), AllocError>
-        ensures { OnOk result ((ds : Items) → ReadAll self.old.source operands.now ds → Adds self.old self.new (least (in_exps (all_exprs ds)))) }
+        ensures fault { OnOk result ((ds : Items) → ReadAll self.old.source operands.now ds → Adds self.old self.new (least (in_exps (all_exprs ds)))) }
+        ensures core { OnOk result ((c : Context) (v : View) (ds : Items) → IsView c self.old v → ReadAll c.source operands.now ds → IsRight (Or pos (all_exprs ds)) → Turns c self.old self.new (seen c (Or pos (all_exprs ds)) v)) }
     {
         let Some((last, others)) = operands.split_last() else {
             return self.constant(Constant::Boolean(false), pos);
@@ -270,7 +296,8 @@ impl<'a> Expander<'a> {
         exprs: &'a [u32],
         level: u32,
     ) -> Result<(), AllocError>
-        ensures { OnOk result ((ds : Items) → ReadAll self.old.source exprs.now ds → Adds self.old self.new (least (in_exps (all_exprs ds)))) }
+        ensures fault { OnOk result ((ds : Items) → ReadAll self.old.source exprs.now ds → Adds self.old self.new (least (in_exps (all_exprs ds)))) }
+        ensures core { OnOk result ((c : Context) (v : View) (ds : Items) → IsView c self.old v → ReadAll c.source exprs.now ds → AreRight (all_exprs ds) → level ≡ height v → Turns c self.old self.new (alternated c pos (all_exprs ds) v)) }
     {
         let Some((last, others)) = exprs.split_last() else {
             return Ok(());
@@ -292,7 +319,8 @@ impl<'a> Expander<'a> {
         count: usize,
         operands: Step<'a>,
     ) -> Result<(), AllocError>
-        ensures { OnOk result ((d : Datum) (due : Perhaps Fault) → Reads self.old.source head d → Waits self.old.source operands.entry due → Adds self.old self.new (earlier (least (in_exp (expression d))) due)) }
+        ensures fault { OnOk result ((d : Datum) (due : Perhaps Fault) → Reads self.old.source head d → Waits self.old.source operands.entry due → Adds self.old self.new (earlier (least (in_exp (expression d))) due)) }
+        ensures core { OnOk result ((c : Context) (v : View) (d : Datum) (es : Trees) → IsView c self.old v → Reads c.source head d → IsRight (expression d) → count_of es ≡ count → ((u : View) → bound_names u.bound ≡ bound_names v.bound → ComesTo c operands.entry u (visit_all c es u)) → Turns c self.old self.new (visit c (call_of pos (scope_of c v) (expression d) (core_of (expression d) (scope_of c v)) es) v)) }
     {
         match self.known(head, count) {
             Some(call) => self.wait(&[Step::Known(pos, call, count), operands]),
@@ -302,7 +330,8 @@ impl<'a> Expander<'a> {
 
     /// What a call of so many operands is, if that is known of its operator.
     fn known(&self, head: u32, count: usize) -> Option<Known>
-        ensures { IfSome result (λ call. (d : Datum) → Reads self.now.source head d → least (in_exp (expression d)) ≡ None) }
+        ensures fault { IfSome result (λ call. (d : Datum) → Reads self.now.source head d → least (in_exp (expression d)) ≡ None) }
+        ensures core { (c : Context) (v : View) (d : Datum) (es : Trees) (p : Place) (e : Tree) → IsView c self.now v → Reads c.source head d → IsRight (expression d) → count_of es ≡ count → MatchOption result (call_of p (scope_of c v) (expression d) e es ≡ Call p e es) (λ call. (f : Tree) × (known_draft p (height v) call es ≡ Some f) × (call_of p (scope_of c v) (expression d) e es ≡ f)) }
     {
         let word = self.source.word(head)?;
         let Variable::Library { .. } = self.variable(word) else {
@@ -310,5 +339,14 @@ impl<'a> Expander<'a> {
         };
         let call = known_of(word)?;
         if call.takes(count) { Some(call) } else { None }
+    }
+}
+
+/// Marks the flag of a word, if there is one.
+fn mark(flags: &mut Vec<bool>, word: u32)
+    ensures { flags.new.items ≡ slice_set flags.old.items word true }
+{
+    if let Some(flag) = flags.get_mut(word as usize) {
+        *flag = true;
     }
 }

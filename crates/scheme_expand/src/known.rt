@@ -1,15 +1,30 @@
 //! Calls of the library that become operations at once.
 
+ghost use Rattle.std.specs.Prelude.{ℕ, ◌≡◌, List as Seq, length, map, Some, is_some, OnOk, IfOk};
+ghost use Rattle.scheme_base.specs.declared.pos.Pos.{Pos as Place};
+ghost use Rattle.draft_form.specs.Drafts.{Draft as Tree, Drafts as Trees, Prim, Ref};
+ghost use Rattle.draft_form.specs.Drawn.{Names, Data, Drawn, AllDrawn, name_of};
+ghost use Rattle.scheme_expand.specs.declared.words.Known.TheVariants as known;
+ghost use Rattle.scheme_expand.specs.Calls.{count as count_of, fresh, references, sum, folded as folded_of, Compares, way, comparison as comparison_of, listed, negated as negated_of, negation as negation_of, two, NotLess, bound_first};
+ghost use Rattle.scheme_expand.specs.Making.{comparing, known_draft, instead, taken, left_of};
+ghost use Rattle.scheme_expand.specs.Rewritten.{refs, over as over_of, rewritten as rewritten_of, IsAtOnce};
+ghost use Rattle.scheme_expand.specs.Stacks.{Draws, Gives};
+ghost use Rattle.scheme_expand.specs.Viewed.{IsMade, IsScope};
+ghost use Rattle.scheme_expand.specs.Views.{Bound, Context, View, height};
+
 use crate::make::Maker;
+use crate::scope::above;
 use crate::words::{Comparison, Known};
 use core_form::What;
 use draft_form::{Constant, Variable};
-use scheme_base::{List, Op, Pos};
+use scheme_base::{Ids, List, Op, Pos};
 use std::alloc::AllocError;
 
 impl Known {
     /// Whether a call with so many operands is this.
-    pub(crate) fn takes(self, count: usize) -> bool {
+    pub(crate) fn takes(self, count: usize) -> bool
+        ensures { (p : Place) (level : ℕ) (es : Trees) → count_of es ≡ count → result ≡ is_some (known_draft p level self es) }
+    {
         match self {
             Known::Operation(op) => count == op.operands(),
             Known::Not => count == 1,
@@ -21,14 +36,37 @@ impl Known {
     }
 
     /// The operation that a call with so many operands is at once, if it is one.
-    fn operation(self, count: usize) -> Option<Op> {
+    fn operation(self, count: usize) -> Option<Op>
+        ensures { IsAtOnce result self count }
+    {
         match self {
             Known::Operation(op) => Some(op),
-            Known::Fold(op, _) if count == 2 => Some(op),
-            Known::Subtract if count == 2 => Some(Op::Subtract),
-            Known::Compare(Comparison::Equal) if count == 2 => Some(Op::Equals),
-            Known::Compare(Comparison::Less) if count == 2 => Some(Op::Less),
-            _ => None,
+            _ => { if count == 2 { self.of_two() } else { None } }
+        }
+    }
+
+    /// The same with two operands.
+    fn of_two(self) -> Option<Op>
+        ensures { IsAtOnce result self 2 }
+    {
+        match self {
+            Known::Operation(op) | Known::Fold(op, _) => Some(op),
+            Known::Subtract => Some(Op::Subtract),
+            Known::Compare(comparison) => comparison.operation(),
+            Known::Not | Known::List | Known::Symbols => None,
+        }
+    }
+}
+
+impl Comparison {
+    /// The operation that compares two operands so, if there is one.
+    fn operation(self) -> Option<Op>
+        ensures { IsAtOnce result (known.Compare self) 2 }
+    {
+        match self {
+            Comparison::Equal => Some(Op::Equals),
+            Comparison::Less => Some(Op::Less),
+            Comparison::Greater | Comparison::AtMost | Comparison::AtLeast => None,
         }
     }
 }
@@ -40,80 +78,114 @@ impl Maker {
         pos: Pos,
         known: Known,
         count: usize,
-    ) -> Result<u32, AllocError> {
+    ) -> Result<u32, AllocError>
+        ensures { IfOk result (λ id. (c : Context) (v : View) (d : Tree) → IsMade c self.old v → known_draft pos (height v) known (taken count v.made) ≡ Some d → Gives c self.new id (instead v (left_of count v.made) d)) }
+    {
+        let operands = self.take_all(count)?;
         if let Some(op) = known.operation(count) {
-            let operands = self.take_all(count)?;
             return self.drafts.add(What::Prim { op, operands }, pos);
         }
-        self.rewritten(pos, known, count)
+        self.rewritten(pos, known, operands)
     }
 
-    /// A call that is no operation at once. Its operands, if there are some, are held by fresh variables.
-    fn rewritten(&mut self, pos: Pos, known: Known, count: usize) -> Result<u32, AllocError> {
+    /// A call that is no operation at once.
+    fn rewritten(&mut self, pos: Pos, known: Known, operands: Ids) -> Result<u32, AllocError>
+        ensures kept { OnOk result (Draws self.old self.new) }
+        ensures drawn { IfOk result (λ id. (names : Names) (nodes : Data) (bs : Seq Bound) (es : Trees) (d : Tree) → IsScope names self.old.scope bs → AllDrawn names nodes self.old.drafts operands es → rewritten_of pos (length bs) known es ≡ Some d → Drawn names nodes self.new.drafts id d) }
+    {
         match known {
-            Known::Not => self.negation(pos),
+            Known::Not => self.negated(pos, operands.as_slice()),
             Known::Symbols => self.drafts.constant(Constant::Symbols, pos),
-            Known::Fold(op, start) => self.held_fold(pos, op, start, count),
-            Known::Subtract => self.held_fold(pos, Op::Subtract, 0, count),
-            Known::Compare(comparison) => {
-                let operands = self.take_all(count)?;
-                let held = self.held(count)?;
-                let body = self.chain(pos, comparison, held.as_slice())?;
-                self.drafts.bind(held, body, operands, pos)
-            }
-            Known::List => self.held_list(pos, count),
-            Known::Operation(_) => Err(AllocError),
+            _ => self.held_first(pos, known, operands),
         }
     }
 
-    fn negation(&mut self, pos: Pos) -> Result<u32, AllocError> {
-        let test = self.take()?;
+    fn negated(&mut self, pos: Pos, operands: &[u32]) -> Result<u32, AllocError>
+        ensures kept { OnOk result (Draws self.old self.new) }
+        ensures drawn { IfOk result (λ id. (names : Names) (nodes : Data) (es : Trees) (d : Tree) → AllDrawn names nodes self.old.drafts operands.now es → negated_of pos es ≡ Some d → Drawn names nodes self.new.drafts id d) }
+    {
+        let [test] = operands else {
+            return Err(AllocError);
+        };
+        self.negation(pos, *test)
+    }
+
+    fn negation(&mut self, pos: Pos, test: u32) -> Result<u32, AllocError>
+        ensures kept { OnOk result (Draws self.old self.new) }
+        ensures drawn { IfOk result (λ id. (names : Names) (nodes : Data) (e : Tree) → Drawn names nodes self.old.drafts test e → Drawn names nodes self.new.drafts id (negation_of pos e)) }
+    {
         let yes = self.drafts.constant(Constant::Boolean(false), pos)?;
         let no = self.drafts.constant(Constant::Boolean(true), pos)?;
         self.drafts.conditional(test, yes, no, pos)
     }
 
-    fn held_fold(&mut self, pos: Pos, op: Op, start: i64, count: usize) -> Result<u32, AllocError> {
-        if count == 0 {
-            return self.drafts.constant(Constant::Integer(start), pos);
+    /// An expression over fresh variables, which hold the operands if there are some.
+    fn held_first(&mut self, pos: Pos, known: Known, operands: Ids) -> Result<u32, AllocError>
+        ensures kept { OnOk result (Draws self.old self.new) }
+        ensures drawn { IfOk result (λ id. (names : Names) (nodes : Data) (bs : Seq Bound) (es : Trees) (d : Tree) → IsScope names self.old.scope bs → AllDrawn names nodes self.old.drafts operands es → bound_first pos (length bs) es (over_of pos known (references pos (length bs) es)) ≡ Some d → Drawn names nodes self.new.drafts id d) }
+    {
+        let held = self.held(operands.len())?;
+        let body = self.over(pos, known, held.as_slice())?;
+        if operands.is_empty() {
+            return Ok(body);
         }
-        let operands = self.take_all(count)?;
-        let held = self.held(count)?;
-        let body = self.fold(pos, op, start, held.as_slice())?;
-        self.drafts.bind(held, body, operands, pos)
-    }
-
-    fn held_list(&mut self, pos: Pos, count: usize) -> Result<u32, AllocError> {
-        if count == 0 {
-            return self.drafts.constant(Constant::Nil, pos);
-        }
-        let operands = self.take_all(count)?;
-        let held = self.held(count)?;
-        let body = self.pairs(pos, held.as_slice())?;
         self.drafts.bind(held, body, operands, pos)
     }
 
     /// As many fresh variables.
-    fn held(&self, count: usize) -> Result<List<Variable>, AllocError> {
+    fn held(&self, count: usize) -> Result<List<Variable>, AllocError>
+        ensures { IfOk result (λ held. (names : Names) (bs : Seq Bound) (es : Trees) → IsScope names self.now.scope bs → count_of es ≡ count → map (name_of names) held ≡ fresh (length bs) es) }
+    {
+        let first = self.scope.level()?;
         let mut held = List::new(self.alloc);
-        let mut level = self.scope.level()?;
-        for _variable in 0..count {
+        for index in 0..count {
+            let level = above(first, index)?;
             held.push(Variable::Fresh { level })?;
-            level = level.saturating_add(1);
         }
         Ok(held)
     }
 
-    /// An operation over variables, from the left; over one, on an integer and it.
-    fn fold(&mut self, pos: Pos, op: Op, start: i64, held: &[Variable]) -> Result<u32, AllocError> {
-        let (first, others) = match held {
-            [first, second, ..] => (self.drafts.reference(*first, pos)?, &held[1..]),
-            _ => (self.drafts.constant(Constant::Integer(start), pos)?, held),
+    /// What a call does with variables.
+    fn over(&mut self, pos: Pos, known: Known, held: &[Variable]) -> Result<u32, AllocError>
+        ensures kept { OnOk result (Draws self.old self.new) }
+        ensures drawn { IfOk result (λ id. (names : Names) (nodes : Data) (d : Tree) → over_of pos known (refs names pos held.now) ≡ Some d → Drawn names nodes self.new.drafts id d) }
+    {
+        match known {
+            Known::Fold(op, start) => self.fold(pos, op, start, held),
+            Known::Subtract => self.fold(pos, Op::Subtract, 0, held),
+            Known::Compare(comparison) => self.chain(pos, comparison, held),
+            Known::List => self.pairs(pos, held),
+            Known::Operation(_) | Known::Not | Known::Symbols => Err(AllocError),
+        }
+    }
+
+    /// An operation over variables, from the left; over one, on an integer and it; over none, the integer.
+    fn fold(&mut self, pos: Pos, op: Op, start: i64, held: &[Variable]) -> Result<u32, AllocError>
+        ensures kept { OnOk result (Draws self.old self.new) }
+        ensures drawn { IfOk result (λ id. (names : Names) (nodes : Data) → Drawn names nodes self.new.drafts id (sum pos op start (refs names pos held.now))) }
+    {
+        if held.len() < 2 {
+            let first = self.drafts.constant(Constant::Integer(start), pos)?;
+            return self.folded(pos, op, first, held);
+        }
+        let Some((first, others)) = held.split_first() else {
+            return Err(AllocError);
         };
+        let first = self.drafts.reference(*first, pos)?;
+        self.folded(pos, op, first, others)
+    }
+
+    /// An operation with one variable after another.
+    fn folded(&mut self, pos: Pos, op: Op, first: u32, held: &[Variable]) -> Result<u32, AllocError>
+        ensures kept { OnOk result (Draws self.old self.new) }
+        ensures drawn { IfOk result (λ id. (names : Names) (nodes : Data) (e : Tree) → Drawn names nodes self.old.drafts first e → Drawn names nodes self.new.drafts id (folded_of pos op e (refs names pos held.now))) }
+    {
         let mut value = first;
-        for variable in others {
-            let operand = self.drafts.reference(*variable, pos)?;
+        let mut rest = held;
+        while let Some((next, others)) = rest.split_first() {
+            let operand = self.drafts.reference(*next, pos)?;
             value = self.drafts.binary(op, value, operand, pos)?;
+            rest = others;
         }
         Ok(value)
     }
@@ -124,17 +196,25 @@ impl Maker {
         pos: Pos,
         comparison: Comparison,
         held: &[Variable],
-    ) -> Result<u32, AllocError> {
-        let [before @ .., first, second] = held else {
+    ) -> Result<u32, AllocError>
+        ensures kept { OnOk result (Draws self.old self.new) }
+        ensures drawn { IfOk result (λ id. (names : Names) (nodes : Data) (d : Tree) → way pos (Compares (comparing comparison)) (refs names pos held.now) ≡ Some d → Drawn names nodes self.new.drafts id d) }
+    {
+        let Some((second, before)) = held.split_last() else {
+            return Err(AllocError);
+        };
+        let Some((first, before)) = before.split_last() else {
             return Err(AllocError);
         };
         let mut all = self.compare(pos, comparison, *first, *second)?;
         let mut next = *first;
-        for last in before.iter().rev() {
+        let mut rest = before;
+        while let Some((last, others)) = rest.split_last() {
             let test = self.compare(pos, comparison, *last, next)?;
             let no = self.drafts.constant(Constant::Boolean(false), pos)?;
             all = self.drafts.conditional(test, all, no, pos)?;
             next = *last;
+            rest = others;
         }
         Ok(all)
     }
@@ -145,36 +225,54 @@ impl Maker {
         comparison: Comparison,
         first: Variable,
         second: Variable,
-    ) -> Result<u32, AllocError> {
-        let (op, swapped, negated) = match comparison {
-            Comparison::Equal => (Op::Equals, false, false),
-            Comparison::Less => (Op::Less, false, false),
-            Comparison::Greater => (Op::Less, true, false),
-            Comparison::AtMost => (Op::Less, true, true),
-            Comparison::AtLeast => (Op::Less, false, true),
-        };
-        let (left, right) = if swapped {
-            (second, first)
-        } else {
-            (first, second)
-        };
-        let left = self.drafts.reference(left, pos)?;
-        let right = self.drafts.reference(right, pos)?;
-        let test = self.drafts.binary(op, left, right, pos)?;
-        if !negated {
-            return Ok(test);
+    ) -> Result<u32, AllocError>
+        ensures kept { OnOk result (Draws self.old self.new) }
+        ensures drawn { IfOk result (λ id. (names : Names) (nodes : Data) → Drawn names nodes self.new.drafts id (comparison_of pos (comparing comparison) (Ref pos (name_of names first)) (Ref pos (name_of names second)))) }
+    {
+        match comparison {
+            Comparison::Equal => self.binary(pos, Op::Equals, first, second),
+            Comparison::Less => self.binary(pos, Op::Less, first, second),
+            Comparison::Greater => self.binary(pos, Op::Less, second, first),
+            Comparison::AtMost => self.not_less(pos, second, first),
+            Comparison::AtLeast => self.not_less(pos, first, second),
         }
-        let yes = self.drafts.constant(Constant::Boolean(false), pos)?;
-        let no = self.drafts.constant(Constant::Boolean(true), pos)?;
-        self.drafts.conditional(test, yes, no, pos)
+    }
+
+    fn not_less(&mut self, pos: Pos, first: Variable, second: Variable) -> Result<u32, AllocError>
+        ensures kept { OnOk result (Draws self.old self.new) }
+        ensures drawn { IfOk result (λ id. (names : Names) (nodes : Data) → Drawn names nodes self.new.drafts id (comparison_of pos NotLess (Ref pos (name_of names first)) (Ref pos (name_of names second)))) }
+    {
+        let test = self.binary(pos, Op::Less, first, second)?;
+        self.negation(pos, test)
+    }
+
+    /// An operation on two variables.
+    fn binary(
+        &mut self,
+        pos: Pos,
+        op: Op,
+        first: Variable,
+        second: Variable,
+    ) -> Result<u32, AllocError>
+        ensures kept { OnOk result (Draws self.old self.new) }
+        ensures drawn { IfOk result (λ id. (names : Names) (nodes : Data) → Drawn names nodes self.new.drafts id (Prim pos op (two (Ref pos (name_of names first)) (Ref pos (name_of names second))))) }
+    {
+        let first = self.drafts.reference(first, pos)?;
+        let second = self.drafts.reference(second, pos)?;
+        self.drafts.binary(op, first, second, pos)
     }
 
     /// The list of variables.
-    fn pairs(&mut self, pos: Pos, held: &[Variable]) -> Result<u32, AllocError> {
+    fn pairs(&mut self, pos: Pos, held: &[Variable]) -> Result<u32, AllocError>
+        ensures kept { OnOk result (Draws self.old self.new) }
+        ensures drawn { IfOk result (λ id. (names : Names) (nodes : Data) → Drawn names nodes self.new.drafts id (listed pos (refs names pos held.now))) }
+    {
         let mut list = self.drafts.constant(Constant::Nil, pos)?;
-        for last in held.iter().rev() {
+        let mut rest = held;
+        while let Some((last, others)) = rest.split_last() {
             let car = self.drafts.reference(*last, pos)?;
             list = self.drafts.binary(Op::Cons, car, list, pos)?;
+            rest = others;
         }
         Ok(list)
     }

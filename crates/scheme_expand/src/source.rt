@@ -1,10 +1,12 @@
 //! Data whose names have numbers.
 
-ghost use Rattle.std.specs.Prelude.{◌≡◌, None, MatchOption, slice_get, false};
+ghost use Rattle.std.specs.Prelude.{◌≡◌, MatchOption, slice_get, false};
 ghost use Rattle.datum_form.specs.Data.{Datum};
 ghost use Rattle.datum_form.specs.Pending.{IsKind};
 ghost use Rattle.quasi_expand.specs.Shapes.{is_list, is_word};
-ghost use Rattle.scheme_expand.specs.Grammar.{is_define};
+ghost use Rattle.scheme_expand.specs.Grammar.{is_define, expr};
+ghost use Rattle.scheme_expand.specs.Making.{IsRight};
+ghost use Rattle.scheme_expand.specs.Rewriting.{is_lambda as is_procedure};
 ghost use Rattle.scheme_expand.specs.Noted.{level_in};
 ghost use Rattle.scheme_expand.specs.Shapes.{is_listed, IsListed};
 ghost use Rattle.scheme_expand.specs.Waiting.{Reads, IsList, place, keyword_of as keyword_word, head_of, name_of};
@@ -18,29 +20,19 @@ use scheme_base::Pos;
 pub(crate) struct Source<'a> {
     pub(crate) nodes: &'a [Node],
     pub(crate) words: &'a [Option<u32>],
-    /// The place of all data, if it is not their own.
-    pub(crate) place: Option<Pos>,
 }
 
 impl<'a> Source<'a> {
     pub(crate) fn new(nodes: &'a [Node], words: &'a [Option<u32>]) -> Source<'a>
         ensures nodes { result.nodes.now ≡ nodes.now }
         ensures words { result.words.now ≡ words.now }
-        ensures place { result.place ≡ None }
     {
-        Source {
-            nodes,
-            words,
-            place: None,
-        }
+        Source { nodes, words }
     }
 
     pub(crate) fn pos(self, id: u32) -> Pos
         ensures { (d : Datum) → Reads self.entry id d → result ≡ place d }
     {
-        if let Some(pos) = self.place {
-            return pos;
-        }
         match self.nodes.get(id as usize) {
             Some(node) => node.pos,
             None => Pos { line: 0, col: 0 },
@@ -103,6 +95,16 @@ impl<'a> Source<'a> {
     {
         match self.head(id) {
             Some(keyword) => keyword.is_define(),
+            None => false,
+        }
+    }
+
+    /// Whether this is a lambda expression, if it is a good form.
+    pub(crate) fn is_lambda(self, id: u32) -> bool
+        ensures { (d : Datum) → Reads self.entry id d → IsRight (expr d) → result ≡ is_procedure (expr d) }
+    {
+        match self.head(id) {
+            Some(keyword) => keyword.is_lambda(),
             None => false,
         }
     }

@@ -53,6 +53,8 @@ pub(crate) enum Step<'a> {
     Bind(Pos, Variable),
     /// A body, and the values of the variables from a level on, which are all lambda expressions or not.
     Letrec(Pos, u32, bool),
+    /// A body, and the procedure that the fresh variable of a level is in it.
+    Loop(Pos, u32),
     /// A step of a template.
     Template(Pos, Part),
 }

@@ -1,9 +1,15 @@
 //! Names by numbers, the keywords and the library's known names first.
 
-ghost use Rattle.std.specs.Prelude.{◌≡◌, [], length, IfOk, OnOk, IfSome, None};
+ghost use Rattle.std.specs.Prelude.{ℕ, ◌≡◌, [], ◌∷◌, List as Seq, map, length, slice_get, IfOk, OnOk, IfSome, MatchOption, Some, None};
+ghost use Rattle.scheme_base.specs.declared.pos.Pos.{Pos as Place};
+ghost use Rattle.draft_form.specs.Drafts.{Drafts as Trees};
+ghost use Rattle.draft_form.specs.Drawn.{word_name};
+ghost use Rattle.scheme_expand.specs.Calls.{integrated};
+ghost use Rattle.scheme_expand.specs.KnownNames.{call_kind};
+ghost use Rattle.scheme_expand.specs.Making.{known_draft};
 ghost use Rattle.scheme_expand.specs.Waiting.{keyword_at, name_of};
-ghost use Rattle.scheme_expand.specs.Naming.{IsTable, Grows, IsNumbered, Names, IsWordOf, name_list};
-ghost use Rattle.scheme_expand.specs.Shapes.{defines};
+ghost use Rattle.scheme_expand.specs.Naming.{IsTable, HasHelpers, Adds, Grows, IsNumbered, Names, IsWordOf, name_list, keyword_names, call_name, known_names, operation_names};
+ghost use Rattle.scheme_expand.specs.Shapes.{defines, begins_lambda};
 
 use datum_form::{Kind, Node};
 use indexmap::IndexSet;
@@ -90,6 +96,16 @@ impl Keyword {
     {
         match self {
             Keyword::Define => true,
+            _ => false,
+        }
+    }
+
+    /// Whether this is `lambda`.
+    pub(crate) fn is_lambda(self) -> bool
+        ensures { result ≡ begins_lambda self }
+    {
+        match self {
+            Keyword::Lambda => true,
             _ => false,
         }
     }
@@ -186,14 +202,26 @@ pub(crate) fn keyword_of(word: u32) -> Option<Keyword>
 
 /// What a call of the library's name of this number is.
 pub(crate) fn known_of(word: u32) -> Option<Known>
-    ensures { IfSome result (λ known. keyword_at word ≡ None) }
+    ensures fault { IfSome result (λ known. keyword_at word ≡ None) }
+    ensures core { (names : Seq (Seq ℕ)) (x : Seq ℕ) (p : Place) (level : ℕ) (es : Trees) → IsTable names → slice_get names word ≡ Some x → MatchOption result (integrated p level x es ≡ None) (λ known. integrated p level x es ≡ known_draft p level known es) }
 {
     let at = (word as usize).checked_sub(KEYWORDS.len())?;
-    if let Some((_, known)) = KNOWN.get(at) {
-        return Some(*known);
+    let known = KNOWN;
+    if let Some(call) = call_in(&known, at) {
+        return Some(call);
     }
     let op = OPERATIONS.get(at.checked_sub(KNOWN.len())?)?;
     Some(Known::Operation(*op))
+}
+
+/// What a call of the name at a place of a table is.
+fn call_in(known: &[(&[u8], Known)], at: usize) -> Option<Known>
+    ensures { result ≡ slice_get (map call_kind known.now) at }
+{
+    match known.get(at) {
+        Some((_, call)) => Some(*call),
+        None => None,
+    }
 }
 
 /// The numbers of the library's procedures that rewritten forms call.
@@ -213,7 +241,8 @@ pub(crate) struct Words<'a> {
 impl<'a> Words<'a> {
     /// The keywords and the names whose calls are known.
     pub(crate) fn new(alloc: Global) -> Result<Words<'a>, AllocError>
-        ensures { IfOk result (λ words. IsTable (name_list words)) }
+        ensures table { IfOk result (λ words. IsTable (name_list words)) }
+        ensures helpers { IfOk result (λ words. HasHelpers (name_list words) words.helpers) }
     {
         let mut words = Words {
             names: IndexSet::new(alloc),
@@ -222,8 +251,9 @@ impl<'a> Words<'a> {
                 list_to_vector: 0,
             },
         };
-        words.number_keywords()?;
-        words.number_known()?;
+        words.add_keywords()?;
+        words.add_known()?;
+        words.add_operations()?;
         let join = words.number(b"%join")?;
         let list_to_vector = words.number(b"list->vector")?;
         words.helpers = Helpers {
@@ -233,31 +263,52 @@ impl<'a> Words<'a> {
         Ok(words)
     }
 
-    /// Numbers the keywords, where no name has a number yet.
-    fn number_keywords(&mut self) -> Result<(), AllocError>
-        ensures { OnOk result (name_list self.old ≡ [] → IsTable (name_list self.new)) }
+    /// Numbers the keywords.
+    fn add_keywords(&mut self) -> Result<(), AllocError>
+        ensures { OnOk result (Adds (name_list self.old) keyword_names (name_list self.new)) }
     {
-        let mut rest: &[Keyword] = &KEYWORDS;
-        while let Some((first, others)) = rest.split_first() {
-            let next = self.names.len();
-            let word = self.number(first.name())?;
-            if (word as usize) < next {
-                return Err(AllocError);
-            }
-            rest = others;
+        for keyword in KEYWORDS {
+            self.add(keyword.name())?;
         }
         Ok(())
     }
 
-    /// Numbers the names whose calls are known.
-    fn number_known(&mut self) -> Result<(), AllocError>
-        ensures { OnOk result (Grows (name_list self.old) (name_list self.new)) }
+    /// Numbers the names whose calls become operations at once.
+    fn add_known(&mut self) -> Result<(), AllocError>
+        ensures { OnOk result (Adds (name_list self.old) known_names (name_list self.new)) }
     {
-        for (name, _) in KNOWN {
-            self.number(name)?;
+        let known = KNOWN;
+        self.add_calls(&known)
+    }
+
+    /// Numbers the names of a table of calls.
+    fn add_calls(&mut self, known: &[(&'a [u8], Known)]) -> Result<(), AllocError>
+        ensures { OnOk result (Adds (name_list self.old) (map call_name known.now) (name_list self.new)) }
+    {
+        for (name, _) in known {
+            self.add(*name)?;
         }
+        Ok(())
+    }
+
+    /// Numbers the operations' names.
+    fn add_operations(&mut self) -> Result<(), AllocError>
+        ensures { OnOk result (Adds (name_list self.old) operation_names (name_list self.new)) }
+    {
         for op in OPERATIONS {
-            self.number(op.name().as_bytes())?;
+            self.add(op.name().as_bytes())?;
+        }
+        Ok(())
+    }
+
+    /// Numbers a name of the tables, in which no name stands twice.
+    fn add(&mut self, name: &'a [u8]) -> Result<(), AllocError>
+        ensures { OnOk result (Adds (name_list self.old) (name.now ∷ []) (name_list self.new)) }
+    {
+        let next = self.names.len();
+        let word = self.number(name)?;
+        if (word as usize) < next {
+            return Err(AllocError);
         }
         Ok(())
     }
@@ -277,17 +328,23 @@ impl<'a> Words<'a> {
     }
 
     /// The name of a number.
-    pub(crate) fn name(&self, word: u32) -> &'a [u8] {
+    pub(crate) fn name(&self, word: u32) -> &'a [u8]
+        ensures { result.now ≡ word_name self.now.names.keys word }
+    {
         match self.names.get_index(word as usize) {
             Some(name) => *name,
             None => b"",
         }
     }
 
-    /// The number of a name.
-    pub(crate) fn number(&mut self, name: &'a [u8]) -> Result<u32, AllocError>
-        ensures { IfOk result (λ word. IsNumbered (name_list self.old) (name_list self.new) name.now word) }
+    /// The number of a name. No text has an empty one.
+    fn number(&mut self, name: &'a [u8]) -> Result<u32, AllocError>
+        ensures number { IfOk result (λ word. IsNumbered (name_list self.old) (name_list self.new) name.now word) }
+        ensures helpers { OnOk result (self.new.helpers ≡ self.old.helpers) }
     {
+        if name.is_empty() {
+            return Err(AllocError);
+        }
         let (index, _) = self.names.insert_full(name)?;
         let Ok(word) = u32::try_from(index) else {
             return Err(AllocError);
@@ -301,7 +358,8 @@ impl<'a> Words<'a> {
         alloc: Global,
         nodes: &'a [Node],
     ) -> Result<Vec<Option<u32>>, AllocError>
-        ensures { IfOk result (λ numbers. Names (name_list self.old) (name_list self.new) numbers.items nodes.now) }
+        ensures names { IfOk result (λ numbers. Names (name_list self.old) (name_list self.new) numbers.items nodes.now) }
+        ensures helpers { OnOk result (self.new.helpers ≡ self.old.helpers) }
     {
         let mut numbers = Vec::new(alloc);
         let mut rest = nodes;
@@ -317,6 +375,7 @@ impl<'a> Words<'a> {
     fn number_in(&mut self, kind: &'a Kind) -> Result<Option<u32>, AllocError>
         ensures grows { OnOk result (Grows (name_list self.old) (name_list self.new)) }
         ensures word { IfOk result (λ number. IsWordOf (name_list self.new) number kind.now) }
+        ensures helpers { OnOk result (self.new.helpers ≡ self.old.helpers) }
     {
         match kind {
             Kind::Name(name) => {

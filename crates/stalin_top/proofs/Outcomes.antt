@@ -48,7 +48,7 @@ front_then name bytes (Some before) (Some middle) (Some now) same front = (
   record { changed = front.2.changed; others = λ other differs. front.2.others other differs ∙ same other },
 )
 
-same_then : (before middle now : Option Files) → SameFiles before middle → SameFiles middle now → SameFiles before now
+pub same_then : (before middle now : Option Files) → SameFiles before middle → SameFiles middle now → SameFiles before now
 same_then None middle now one two = tt
 same_then (Some before) None now one two = absurd one
 same_then (Some before) (Some middle) None one two = absurd two

@@ -4,6 +4,6 @@ use Rattle.image_build.proofs.Refusals.{too_many}
 use Rattle.image_build.proofs.front.constraints_of.Goals as goal
 
 pub returns-in-Err-clause-refused : goal.returns-in-Err-clause-refused
-returns-in-Err-clause-refused c =
-    subst (IsLater PassesEarly) (sym c.limit_error.ensures)
-    (too_many c.args.named.now c.in-Err.error c.requires c.in-Err.ensures.refused)
+returns-in-Err-clause-refused c = λ source is_named.
+    subst (IsLater (PassesEarly source)) (sym c.limit_error.ensures)
+    (too_many source c.args.named.now c.in-Err.error is_named c.in-Err.ensures.refused)

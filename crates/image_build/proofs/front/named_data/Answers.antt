@@ -1,14 +1,14 @@
-use Rattle.image_build.specs.Emitted.{PassesEarly}
-use Rattle.image_build.proofs.Refusals.{broken_data, later_data, unbroken_data}
+use Rattle.image_build.proofs.Refusals.{broken_text, later_text}
 use Rattle.image_build.proofs.front.named_data.Goals as goal
 
 pub returns-in-Err-clause-refused : goal.returns-in-Err-clause-refused
-returns-in-Err-clause-refused c = λ ds h.
-    broken_data PassesEarly ds c.in-Err.error c.form_error.result (c.in-Err.ensures.fault ds h) c.form_error.ensures
+returns-in-Err-clause-refused c = λ source ds reads h.
+    broken_text source ds c.in-Err.error c.form_error.result reads (c.in-Err.ensures.core ds h) c.form_error.ensures
 
-pub returns-clause-unbroken : goal.returns-clause-unbroken
-returns-clause-unbroken c = λ ds h. unbroken_data c.named_core.result ds (c.in-Ok.ensures.fault ds h)
+pub returns-clause-is_named : goal.returns-clause-is_named
+returns-clause-is_named c = λ source ds reads h.
+    c.named_core.ensures.is_named source ds reads (c.in-Ok.ensures.core ds h)
 
 pub returns-clause-refused : goal.returns-clause-refused
-returns-clause-refused c = λ ds h.
-    later_data PassesEarly ds c.named_core.result (c.in-Ok.ensures.fault ds h) c.named_core.ensures.refused
+returns-clause-refused c = λ source ds reads h.
+    later_text source c.named_core.result (c.named_core.ensures.refused source ds reads (c.in-Ok.ensures.core ds h))

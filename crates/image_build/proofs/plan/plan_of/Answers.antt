@@ -17,12 +17,12 @@ returns c =
       captured = c.in_ok-capturing.ensures.exact;
       recorded = c.in_ok-capturing.ensures.recording;
       escaping = c.in_ok-escaping.escaping;
-      escapes = c.in_ok-escaping.ensures.exact;
+      escapes = c.in_ok-escaping.ensures.exact c.requires;
       marked = c.in_ok-marks.ensures.exact;
-      slotted = c.in_ok-slots.ensures.exact;
+      slotted = c.in_ok-slots.ensures.exact c.requires;
       represented = c.in_ok-reprs.ensures;
       fits =
-          λ well.
-          fits_program (form c.args.named.now) c.args.rows.now plan c.in_ok-capturing.ensures.fits (c.in_ok-capturing.ensures.recording_fits well)
-          c.in_ok-marks.ensures.fits (c.in_ok-slots.ensures.fits well) c.in_ok-reprs.ensures;
+          fits_program (form c.args.named.now) c.args.rows.now plan c.in_ok-capturing.ensures.fits
+          (c.in_ok-capturing.ensures.recording_fits c.requires) c.in_ok-marks.ensures.fits (c.in_ok-slots.ensures.fits c.requires)
+          c.in_ok-reprs.ensures;
     }

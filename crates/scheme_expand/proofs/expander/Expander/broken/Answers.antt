@@ -15,5 +15,5 @@ returns c =
     on_ok c.wait.result
     (λ w.
     due s c.wait.new.self _ f (earlier_none f)
-    (both s t c.wait.new.self f None c.note.ensures (w None (one_waits t.source (step.Unspecified c.args.pos) None refl))))
-    c.wait.ensures
+    (both s t c.wait.new.self f None c.note.ensures.fault (w None (one_waits t.source (step.Unspecified c.args.pos) None refl))))
+    c.wait.ensures.fault

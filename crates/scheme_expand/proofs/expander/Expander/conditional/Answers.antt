@@ -6,10 +6,11 @@ use Rattle.scheme_expand.proofs.Adding.{due}
 use Rattle.scheme_expand.proofs.Arms.{two_read, two_due, three_read, three_due}
 use Rattle.scheme_expand.proofs.Due.{of, on_ok}
 use Rattle.scheme_expand.proofs.Least.{earlier_none}
+use Rattle.scheme_expand.proofs.MadeForms.{if_turns, if_else_turns}
 use Rattle.scheme_expand.proofs.expander.Expander.conditional.Goals as goal
 
-pub returns-in-len2 : goal.returns-in-len2
-returns-in-len2 c =
+pub returns-in-len2-clause-fault : goal.returns-in-len2-clause-fault
+returns-in-len2-clause-fault c =
     let a = c.args.self.now in
     let p = c.args.pos in
     on_ok c.wait.result
@@ -25,10 +26,10 @@ returns-in-len2 c =
       (None, all, refl, (of t.yes, x, (t.yes, t.read_yes, refl), (x, None, (t.test, t.read_test, refl), refl, sym (earlier_none x)), refl), refl),
       refl,
     )))
-    c.wait.ensures
+    c.wait.ensures.fault
 
-pub returns-in-len3 : goal.returns-in-len3
-returns-in-len3 c =
+pub returns-in-len3-clause-fault : goal.returns-in-len3-clause-fault
+returns-in-len3-clause-fault c =
     let a = c.args.self.now in
     let p = c.args.pos in
     on_ok c.wait-in-len3.result
@@ -51,4 +52,20 @@ returns-in-len3 c =
       ),
       refl,
     )))
-    c.wait-in-len3.ensures
+    c.wait-in-len3.ensures.fault
+
+pub returns-in-len2-clause-core : goal.returns-in-len2-clause-core
+returns-in-len2-clause-core c =
+    on_ok c.wait.result
+    (λ put κ v ds i h r.
+    if_turns κ c.args.self.now c.wait.new.self c.args.pos c.args.operands.now ds v i
+    (two_read κ.source c.args.operands.now ds c.in-len2.len_at_least c.in-len2.len_below h) r put)
+    c.wait.ensures.core
+
+pub returns-in-len3-clause-core : goal.returns-in-len3-clause-core
+returns-in-len3-clause-core c =
+    on_ok c.wait-in-len3.result
+    (λ put κ v ds i h r.
+    if_else_turns κ c.args.self.now c.wait-in-len3.new.self c.args.pos c.args.operands.now ds v i
+    (three_read κ.source c.args.operands.now ds c.in-len3.len_at_least c.in-len3.len_below h) r put)
+    c.wait-in-len3.ensures.core

@@ -8,4 +8,4 @@ returns c =
     let s = c.args.self.now.source in
     on_ok c.call.result
     (λ w d ds h k. w d (of_all ds) (first_item s c.args.items.now _ _ d ds h c.in-Some.ensures.cases.0) (ds, k, refl))
-    c.call.ensures
+    c.call.ensures.fault

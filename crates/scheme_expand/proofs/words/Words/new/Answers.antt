@@ -1,15 +1,23 @@
 use Rattle.std.proofs.Common.{ap}
 use Rattle.scheme_expand.specs.Naming.{name_list}
-use Rattle.scheme_expand.proofs.NumberedNames.{texts}
-use Rattle.scheme_expand.proofs.Numbering.{table_grows, grows_twice}
+use Rattle.scheme_expand.proofs.NumberedNames.{texts, table_made}
+use Rattle.scheme_expand.proofs.Numbering.{grows_twice, still_there}
 use Rattle.scheme_expand.proofs.words.Words.new.Goals as goal
 
-pub returns : goal.returns
-returns c =
-    let keywords = name_list c.number_keywords.new.self in
-    let known = name_list c.number_known.new.self in
+pub returns-clause-table : goal.returns-clause-table
+returns-clause-table c =
+    let table = name_list c.add_operations.new.self in
     let one = name_list c.number.new.self in
     let two = name_list c.number-2.new.self in
-    table_grows keywords two (c.in_ok-number_keywords.ensures (ap texts c.new.ensures.empty))
-    (grows_twice keywords known two c.in_ok-number_known.ensures
-    (grows_twice known one two c.in_ok-join.ensures.grows c.in_ok-list_to_vector.ensures.grows))
+    table_made _ _ _ table two (ap texts c.new.ensures.empty) c.in_ok-add_keywords.ensures c.in_ok-add_known.ensures
+    c.in_ok-add_operations.ensures
+    (grows_twice table one two c.in_ok-join.ensures.number.grows c.in_ok-list_to_vector.ensures.number.grows)
+
+pub returns-clause-helpers : goal.returns-clause-helpers
+returns-clause-helpers c =
+    let one = name_list c.number.new.self in
+    let two = name_list c.number-2.new.self in
+    record {
+      join = still_there one two _ _ c.in_ok-list_to_vector.ensures.number.grows c.in_ok-join.ensures.number.is;
+      list_to_vector = c.in_ok-list_to_vector.ensures.number.is;
+    }
